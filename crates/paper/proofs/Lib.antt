@@ -1,0 +1,2 @@
+-- The laws of the words that promises are written in.
+pub mod Orders

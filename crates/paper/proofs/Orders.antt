@@ -1,0 +1,40 @@
+-- The law of an order of refusals: each number exactly when its condition holds and none earlier does, and done exactly when none does.
+use Prim.Native.Nat.{ℕ, _<_}
+use mathlib.Core.Path.{_≡_, refl, sym, ap, _∙_}
+use mathlib.Core.Bool.{Bool, true, false, _&&_}
+use mathlib.Core.List.{List, [], _∷_}
+use mathlib.Core.Logic.{_⊎_, inl, inr, ⊎-elim, _↔_}
+use native.Mathlib.Omega.{arith}
+use lib.Dec.{T, ltb, ltb→lt}
+use Rattle.paper.specs.Choose.{choose}
+use Rattle.paper.specs.Told.{Told}
+use Rattle.paper.specs.Order.{Check, check, firstOf, NoneHolds, HoldsFirst, areRefusals}
+
+-- both halves of a test that passes
+pub both : (a b : Bool) → T (a && b) → T a × T b
+both true true t = (tt, tt)
+both true false t = absurd t
+both false b t = absurd t
+
+module _ (other : Told) (done : other .number ≡ 0) where
+  given-by : (n : ℕ) → 0 < n → (b : Bool) (t : Told) (cs : List Check) → ((firstOf cs other .number ≡ n) ↔ HoldsFirst n cs)
+      → (choose b t (firstOf cs other) .number ≡ n) ↔ (((t .number ≡ n) × (b ≡ true)) ⊎ ((b ≡ false) × HoldsFirst n cs))
+  given-by n h true t cs e = (λ p. inl (p, refl), ⊎-elim (λ p. p .0) (λ q. let z : _≡_ {A = ℕ} 0 1 = cc in absurd (omega arith)))
+  given-by n h false t cs e = (λ p. inr (refl, e .0 p), ⊎-elim (λ q. let z : _≡_ {A = ℕ} 0 1 = cc in absurd (omega arith)) (λ q. e .1 (q .1)))
+
+  -- a refusal's number, exactly when its condition holds and none before it does
+  pub given-when : (n : ℕ) → 0 < n → (cs : List Check) → (firstOf cs other .number ≡ n) ↔ HoldsFirst n cs
+  given-when n h [] = (λ e. omega arith, λ f. absurd f)
+  given-when n h (c ∷ cs) = given-by n h (c .when) (c .says) cs (given-when n h cs)
+
+  done-by : (b : Bool) (t : Told) (cs : List Check) → 0 < t .number → ((firstOf cs other .number ≡ 0) ↔ NoneHolds cs)
+      → (choose b t (firstOf cs other) .number ≡ 0) ↔ ((b ≡ false) × NoneHolds cs)
+  done-by true t cs h e = (λ p. absurd (omega arith), λ q. let z : _≡_ {A = ℕ} 0 1 = cc in absurd (omega arith))
+  done-by false t cs h e = (λ p. (refl, e .0 p), λ q. e .1 (q .1))
+
+  -- done, exactly when no condition holds
+  pub done-when : (cs : List Check) → T (areRefusals cs) → (firstOf cs other .number ≡ 0) ↔ NoneHolds cs
+  done-when [] r = (λ e. tt, λ u. done)
+  done-when (c ∷ cs) r =
+      let s = both (ltb 0 (c .says .number)) (areRefusals cs) r in
+      done-by (c .when) (c .says) cs (ltb→lt 0 (c .says .number) (s .0)) (done-when cs (s .1))

@@ -1,0 +1,5 @@
+-- The words that every promise is written in.
+pub mod Choose
+pub mod Told
+pub mod Order
+pub mod Fixes

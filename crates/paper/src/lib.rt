@@ -1,0 +1,1 @@
+// How promises are written: definitions and laws only, no code.
