@@ -1,2 +1,4 @@
 -- The laws of the words that promises are written in.
 pub mod Orders
+pub mod Fills
+pub mod Tables

@@ -2,4 +2,5 @@
 pub mod Choose
 pub mod Told
 pub mod Order
+pub mod Written
 pub mod Fixes

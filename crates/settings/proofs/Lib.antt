@@ -1,0 +1,4 @@
+-- The laws of the settings, and that the contracts fix their outcomes.
+pub mod Masks
+pub mod Borders
+pub mod Unique

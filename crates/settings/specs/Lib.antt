@@ -1,0 +1,3 @@
+-- What is read off the settings.
+pub mod Fields
+pub mod Modes
