@@ -1,0 +1,3 @@
+-- The claims: the figures, the list of operations, the three demands, and the tools that are unfit.
+pub mod Figures
+pub mod Operations

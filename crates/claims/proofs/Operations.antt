@@ -1,0 +1,70 @@
+-- Every public operation of every library, in one list: its contract, as the source has it, takes every input and allows one outcome.
+use mathlib.Core.Path.{_≡_, refl}
+use mathlib.Core.List.{List, [], _∷_, map}
+use prog.Routine.{Name}
+use Rattle.paper.specs.Fixes.{Operation, AllFix, none, _&_}
+use Rattle.answer.proofs.Unique as answer
+use Rattle.settings.proofs.Unique as settings
+use Rattle.control.proofs.Unique as control
+
+abbrev pub operations : List Operation
+operations =
+    answer.number-op
+    ∷ answer.place-op
+    ∷ answer.value-op
+    ∷ settings.video-mode-op
+    ∷ settings.offset-op
+    ∷ settings.fast-op
+    ∷ settings.graphics-op
+    ∷ settings.external-op
+    ∷ settings.gm-op
+    ∷ settings.css-op
+    ∷ settings.width-op
+    ∷ settings.dots-op
+    ∷ settings.border-op
+    ∷ settings.font-size-op
+    ∷ settings.mode-name-op
+    ∷ control.play-op
+    ∷ []
+
+-- each of them takes every input and fixes its outcome
+pub all-fix : AllFix operations
+all-fix =
+    answer.number-fixes
+    & answer.place-fixes
+    & answer.value-fixes
+    & settings.video-mode-fixes
+    & settings.offset-fixes
+    & settings.fast-fixes
+    & settings.graphics-fixes
+    & settings.external-fixes
+    & settings.gm-fixes
+    & settings.css-fixes
+    & settings.width-fixes
+    & settings.dots-fixes
+    & settings.border-fixes
+    & settings.font-size-fixes
+    & settings.mode-name-fixes
+    & control.play-fixes
+    & none
+
+-- the functions that the list is of, by the names that the compiler has for them
+pub named : map (λ o. o .key) operations
+    ≡ "answer::number"
+    ∷ "answer::place"
+    ∷ "answer::value"
+    ∷ "settings::video_mode"
+    ∷ "settings::offset"
+    ∷ "settings::fast"
+    ∷ "settings::graphics"
+    ∷ "settings::external"
+    ∷ "settings::gm"
+    ∷ "settings::css"
+    ∷ "settings::width"
+    ∷ "settings::dots"
+    ∷ "settings::border"
+    ∷ "settings::font_size"
+    ∷ "settings::mode_name"
+    ∷ "control::play"
+    ∷ []
+named = refl
