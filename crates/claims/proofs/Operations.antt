@@ -1,11 +1,12 @@
 -- Every public operation of every library, in one list: its contract, as the source has it, takes every input and allows one outcome.
 use mathlib.Core.Path.{_≡_, refl}
 use mathlib.Core.List.{List, [], _∷_, map}
-use prog.Routine.{Name}
 use Rattle.paper.specs.Fixes.{Operation, AllFix, none, _&_}
 use Rattle.answer.proofs.Unique as answer
 use Rattle.settings.proofs.Unique as settings
 use Rattle.control.proofs.Unique as control
+use Rattle.counter.proofs.Unique as counter
+use Rattle.strip.proofs.Unique as strip
 
 abbrev pub operations : List Operation
 operations =
@@ -24,7 +25,13 @@ operations =
     ∷ settings.border-op
     ∷ settings.font-size-op
     ∷ settings.mode-name-op
+    ∷ settings.image-fits-op
     ∷ control.play-op
+    ∷ counter.first-op
+    ∷ counter.pass-op
+    ∷ counter.step-op
+    ∷ counter.line-end-op
+    ∷ strip.fetch-op
     ∷ []
 
 -- each of them takes every input and fixes its outcome
@@ -45,7 +52,13 @@ all-fix =
     & settings.border-fixes
     & settings.font-size-fixes
     & settings.mode-name-fixes
+    & settings.image-fits-fixes
     & control.play-fixes
+    & counter.first-fixes
+    & counter.pass-fixes
+    & counter.step-fixes
+    & counter.line-end-fixes
+    & strip.fetch-fixes
     & none
 
 -- the functions that the list is of, by the names that the compiler has for them
@@ -65,6 +78,12 @@ pub named : map (λ o. o .key) operations
     ∷ "settings::border"
     ∷ "settings::font_size"
     ∷ "settings::mode_name"
+    ∷ "settings::image_fits"
     ∷ "control::play"
+    ∷ "counter::first"
+    ∷ "counter::Counter::pass"
+    ∷ "counter::Counter::step"
+    ∷ "counter::Counter::line_end"
+    ∷ "strip::fetch"
     ∷ []
 named = refl

@@ -1,4 +1,4 @@
--- The writes to the control word (document 003, figure 3; document 01, "The control word").
+-- The writes to the control word (document 003, the SAM control register; document 01, "The control word").
 use Prim.Native.Nat.{ℕ, suc, _+_, _-_, _*_, _/_, _%_, _^_}
 use mathlib.Core.Bool.{Bool, _&&_}
 use mathlib.Core.List.{List, [], _∷_}

@@ -2,4 +2,5 @@
 pub mod Masks
 pub mod Borders
 pub mod Widths
+pub mod Images
 pub mod Unique
