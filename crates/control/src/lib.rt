@@ -9,7 +9,7 @@ ghost use Rattle.control.specs.Control.{withBit, bitOf, valueOf, playTol
 struct Write(u16, u16);
 
 // The choice of thirty-two addresses.
-fn target(address: u16) -> Write
+fn pick(address: u16) -> Write
     ensures { λ r. ⌜ (r .0 ≡ bitOf address) × (r .1 ≡ valueOf address) ⌝ }
 {
     match address {
@@ -69,7 +69,7 @@ pub fn play(word: u16, writes: &[u16]) -> Answer
     let mut now = word;
     let mut i = 0;
     while i < writes.len() {
-        let write = target(writes[i]);
+        let write = pick(writes[i]);
         let bit = write.0;
         if bit == 16 {
             return Answer::Elsewhere(i, word);

@@ -15,28 +15,28 @@ abbrev μ-loop : tie.MeasureT-loop
 μ-loop word writes now₀ i₀ now i = length writes - i
 
 -- the address of this turn's write, and what the choice says of it past the test
-abbrev address : tie.After-target Inv-loop μ-loop → ℕ
+abbrev address : tie.After-pick Inv-loop μ-loop → ℕ
 address c = getD (now (c .before .before .before .before .before .args .writes)) (c .before .before .before .loop .i) 0
 
-control : (c : tie.Else1 Inv-loop μ-loop) → Control (address (c .before)) (c .before .target .result .0) (c .before .target .result .1)
-control c = picked _ _ _ (c .before .target .ensures) (c .if1 .left)
+control : (c : tie.Else1 Inv-loop μ-loop) → Control (address (c .before)) (c .before .pick .result .0) (c .before .pick .result .1)
+control c = picked _ _ _ (c .before .pick .ensures) (c .if1 .left)
 
 loop-holds : tie.Need-loop-holds Inv-loop μ-loop
 loop-holds c = (search needs, from-start _ _)
 
-mul-target : tie.Need-mul-target Inv-loop μ-loop
-mul-target c = search needs
+mul-pick : tie.Need-mul-pick Inv-loop μ-loop
+mul-pick c = search needs
 
-shared-slice-read-target : tie.Need-shared-slice-read-target Inv-loop μ-loop
-shared-slice-read-target c = search needs
+shared-slice-read-pick : tie.Need-shared-slice-read-pick Inv-loop μ-loop
+shared-slice-read-pick c = search needs
 
-target-requires : tie.Need-target-requires Inv-loop μ-loop
-target-requires c κs = search needs
+pick-requires : tie.Need-pick-requires Inv-loop μ-loop
+pick-requires c κs = search needs
 
 returns : tie.Need-returns Inv-loop μ-loop
 returns c =
     stop _ _ _ _ (c .before .before .before .before .loop .inv .1) (c .before .before .before .loop-test .taken)
-    (none-picked (address (c .before)) _ _ (c .before .target .ensures) (c .if1 .taken))
+    (none-picked (address (c .before)) _ _ (c .before .pick .ensures) (c .if1 .taken))
 
 put-requires : tie.Need-put-requires Inv-loop μ-loop
 put-requires c κs = control c .small
@@ -68,9 +68,9 @@ play-spec =
     Inv-loop
     μ-loop
     loop-holds
-    mul-target
-    shared-slice-read-target
-    target-requires
+    mul-pick
+    shared-slice-read-pick
+    pick-requires
     returns
     put-requires
     add-i
