@@ -2,7 +2,7 @@
 use Prim.Native.Nat.{ℕ, _+_, _≤_, _<_}
 use mathlib.Core.Path.{_≡_, refl, sym, ap, _∙_}
 use mathlib.Core.Bool.{Bool, true, false}
-use mathlib.Core.List.{List, [], _∷_}
+use mathlib.Core.List.{List, [], _∷_, _++_}
 use native.Mathlib.Nat.{add-zero}
 use native.Mathlib.Numerals.{add-one}
 use native.Mathlib.Omega.{arith}
@@ -57,3 +57,9 @@ module _ (word : ℕ) (writes : List ℕ) where
       let e : played word writes ≡ now = rw (drop-of-length-le writes h) at (u .word-after) in
       let f : firstElsewhere writes ≡ i = rw (drop-of-length-le writes h) at (u .none-yet) ∙ add-zero i in
       simp (f, le-ltb i (length writes) h, e)
+
+-- a list one longer is one write more
+pub played-more : (w : ℕ) (writes : List ℕ) (a : ℕ) → played w (writes ++ (a ∷ [])) ≡ wordAfter (played w writes) a
+unfolding played
+played-more w [] a = refl
+played-more w (b ∷ writes) a = played-more (wordAfter w b) writes a
