@@ -1,5 +1,5 @@
 -- Laws of `digits`: a number is known by its digits, and a byte is the number of its bits.
-use Prim.Native.Nat.{ℕ, zero, suc, _*_, _^_, _<_}
+use Prim.Native.Nat.{ℕ, zero, suc, _^_, _<_}
 use mathlib.Core.Path.{_≡_, refl, sym, _∙_}
 use mathlib.Core.Bool.{Bool}
 use native.Mathlib.Nat.{pow-zero, pow-suc, mul-le-mul-right, suc-mul}

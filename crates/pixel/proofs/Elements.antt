@@ -1,8 +1,8 @@
 -- A byte's elements fill its dots: eight of one bit in RG modes, four of two bits in CG modes.
-use Prim.Native.Nat.{ℕ, _*_, _/_, _%_, _≤_, _<_}
-use mathlib.Core.Path.{_≡_, refl, sym, ap, _∙_}
+use Prim.Native.Nat.{ℕ, _*_, _/_, _%_, _<_}
+use mathlib.Core.Path.{_≡_, refl}
 use mathlib.Core.Bool.{Bool, true, false}
-use mathlib.Core.Logic.{_⊎_, inl, inr, ⊎-elim}
+use mathlib.Core.Logic.{_⊎_, ⊎-elim}
 use native.Mathlib.Omega.{arith}
 use native.Mathlib.Nat.{mod-lt, div-lt-iff-lt-mul, mul-lt-mul-of-pos-right, mul-div-cancel}
 use lib.Dec.{T, eqb, eqb→eq, lit<}
@@ -15,6 +15,7 @@ use Rattle.settings.specs.Modes.{widths, elements, width, dots}
 use Rattle.settings.proofs.Widths.{width-cases}
 use Rattle.pixel.specs.Picture.{breadth}
 use Rattle.pixel.specs.Graphics.{element, graphic}
+use Rattle.pixel.proofs.Pins.{gm-low}
 
 -- the elements of a byte
 unfoldable pub count : Look → ℕ
@@ -38,9 +39,8 @@ module _ (l : Look) (g : graphics l ≡ true) where
   a-line : count l * dots l * width l ≡ 256
   unfolding count dots width
   a-line =
-      let o : gm l % 2 ≡ gm0 l = omega arith in
       let t : T (fills (gm l)) = each-below fills 8 tt (gm l) (mod-lt _ (lit< tt)) in
-      simp g (rw o at (eqb→eq (choose (eqb (gm l % 2) 1) 8 4 * getD elements (gm l) 0 * getD widths (gm l) 0) 256 t))
+      simp g (rw (gm-low l) at (eqb→eq (choose (eqb (gm l % 2) 1) 8 4 * getD elements (gm l) 0 * getD widths (gm l) 0) 256 t))
 
   -- an element's dots, by how many of them and how many bytes there are
   sized : {c w : ℕ} → count l ≡ c → width l ≡ w → c * dots l * w ≡ 256

@@ -1,4 +1,5 @@
 -- What the pixels of a frame depend on, and that bytes show.
+pub mod Pins
 pub mod Digits
 pub mod Owners
 pub mod Elements

@@ -1,6 +1,6 @@
 -- In graphics every byte shows: two that differ draw at least one pixel otherwise.
-use Prim.Native.Nat.{ℕ, zero, suc, _*_, _+_, _-_, _/_, _%_, _^_, _≤_, _<_}
-use mathlib.Core.Path.{_≡_, refl, sym, ap, subst, _∙_}
+use Prim.Native.Nat.{ℕ, zero, suc, _*_, _+_, _-_, _<_}
+use mathlib.Core.Path.{_≡_, refl, sym, subst, _∙_}
 use mathlib.Core.Bool.{Bool, true, false}
 use mathlib.Core.List.{List}
 use mathlib.Core.Logic.{_⊎_, inl, inr, ⊎-elim}
@@ -11,11 +11,11 @@ use lib.ListN.{getD}
 use borrow.Author.Tests.{eqb-true, eqb-false}
 use Rattle.paper.specs.Choose.{choose}
 use Rattle.settings.specs.declared.Look.{Look}
-use Rattle.settings.specs.Fields.{graphics, gm0, css}
+use Rattle.settings.specs.Fields.{graphics, css}
 use Rattle.settings.specs.Modes.{width, dots}
-use Rattle.pixel.specs.Dots.{black, bit, oneBit, twoBits}
-use Rattle.pixel.specs.Graphics.{element, graphic}
-use Rattle.pixel.specs.Picture.{breadth, owner, dot, picture}
+use Rattle.pixel.specs.Dots.{black, bit, oneBit}
+use Rattle.pixel.specs.Graphics.{element}
+use Rattle.pixel.specs.Picture.{breadth, owner, picture}
 use Rattle.pixel.proofs.Digits.{same-bits, same-pairs}
 use Rattle.pixel.proofs.Owners.{in-graphics, drawn-by, drawn-as, drawn-within}
 use Rattle.pixel.proofs.Elements.{count, by-mode, dot-within, graphic-at}
