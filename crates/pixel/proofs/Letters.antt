@@ -1,14 +1,16 @@
--- Text: a letter's pattern lies within the font, and the dots of a byte fit a byte.
+-- Text: a letter's pattern lies within the font, and Semigraphics are the same under all pins.
 use Prim.Native.Nat.{ℕ, _+_, _*_, _%_, _≤_, _<_}
 use mathlib.Core.Path.{_≡_}
 use mathlib.Core.Bool.{Bool, true, false, _&&_}
+use mathlib.Core.List.{List}
 use native.Mathlib.Omega.{arith}
 use lib.Dec.{eqb}
+use borrow.Author.Tests.{le-ltb}
 use Rattle.paper.specs.Choose.{choose}
 use Rattle.settings.specs.declared.Look.{Look}
 use Rattle.settings.specs.Fields.{graphics, gm0}
 use Rattle.settings.specs.Modes.{width, fontSize}
-use Rattle.pixel.specs.Text.{dd6, pattern}
+use Rattle.pixel.specs.Text.{dd6, pattern, block, lit, ink}
 
 pattern-by : (b : ℕ) (a : Bool) → choose a (64 + b % 32) (b % 64) < 96
 pattern-by b true = omega arith
@@ -24,6 +26,11 @@ module _ (l : Look) where
   pub font-small : fontSize l ≤ 3072
   unfolding fontSize
   font-small = omega arith
+
+  -- Semigraphics: no pin matters, and no font
+  pub blocks : (m : Look) (font list : List ℕ) (b row : ℕ) → 128 ≤ b → (lit l font b row ≡ lit m list b row) × (ink l b ≡ ink m b)
+  unfolding lit ink block
+  blocks m font list b row h = let e = le-ltb b 128 h in (simp e, simp e)
 
   -- text has 32 bytes a line
   pub text-width : graphics l ≡ false → width l ≡ 32
