@@ -14,12 +14,8 @@ use Rattle.settings.specs.Fields.{graphics, gm, gm0}
 use Rattle.settings.specs.Modes.{widths, elements, width, dots}
 use Rattle.settings.proofs.Widths.{width-cases}
 use Rattle.pixel.specs.Picture.{breadth}
-use Rattle.pixel.specs.Graphics.{element, graphic}
+use Rattle.pixel.specs.Graphics.{count, element, graphic}
 use Rattle.pixel.proofs.Pins.{gm-low}
-
--- the elements of a byte
-unfoldable pub count : Look → ℕ
-count l = choose (eqb (gm0 l) 1) 8 4
 
 -- of all eight modes, by GM: W bytes of so many elements, of so many dots each, fill a line
 abbrev fills : ℕ → Bool
