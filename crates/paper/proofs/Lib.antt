@@ -2,3 +2,5 @@
 pub mod Orders
 pub mod Fills
 pub mod Tables
+pub mod Firsts
+pub mod Later
