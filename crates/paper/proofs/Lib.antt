@@ -3,3 +3,5 @@ pub mod Choices
 pub mod Orders
 pub mod Fills
 pub mod Tables
+pub mod Firsts
+pub mod Later

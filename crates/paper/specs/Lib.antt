@@ -2,5 +2,6 @@
 pub mod Choose
 pub mod Told
 pub mod Order
+pub mod First
 pub mod Written
 pub mod Fixes

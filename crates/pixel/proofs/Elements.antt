@@ -2,7 +2,7 @@
 use Prim.Native.Nat.{ℕ, _*_, _/_, _%_, _<_}
 use mathlib.Core.Path.{_≡_, refl}
 use mathlib.Core.Bool.{Bool, true, false}
-use mathlib.Core.Logic.{_⊎_, ⊎-elim}
+use mathlib.Core.Logic.{_⊎_, inl, inr, ⊎-elim}
 use native.Mathlib.Omega.{arith}
 use native.Mathlib.Nat.{mod-lt, div-lt-iff-lt-mul, mul-lt-mul-of-pos-right, mul-div-cancel}
 use lib.Dec.{T, eqb, eqb→eq, lit<}
@@ -14,12 +14,8 @@ use Rattle.settings.specs.Fields.{graphics, gm, gm0}
 use Rattle.settings.specs.Modes.{widths, elements, width, dots}
 use Rattle.settings.proofs.Widths.{width-cases}
 use Rattle.pixel.specs.Picture.{breadth}
-use Rattle.pixel.specs.Graphics.{element, graphic}
+use Rattle.pixel.specs.Graphics.{count, element, graphic}
 use Rattle.pixel.proofs.Pins.{gm-low}
-
--- the elements of a byte
-unfoldable pub count : Look → ℕ
-count l = choose (eqb (gm0 l) 1) 8 4
 
 -- of all eight modes, by GM: W bytes of so many elements, of so many dots each, fill a line
 abbrev fills : ℕ → Bool
@@ -58,6 +54,13 @@ module _ (l : Look) (g : graphics l ≡ true) where
       by-mode l
       (λ _ c. ⊎-elim (λ (w : width l ≡ 16). omega (arith, sized c w)) (λ (w : width l ≡ 32). omega (arith, sized c w)) (width-cases l))
       (λ _ c. ⊎-elim (λ (w : width l ≡ 16). omega (arith, sized c w)) (λ (w : width l ≡ 32). omega (arith, sized c w)) (width-cases l))
+
+  -- an element has one dot, two or four
+  pub dots-cases : (dots l ≡ 1) ⊎ ((dots l ≡ 2) ⊎ (dots l ≡ 4))
+  dots-cases =
+      by-mode l
+      (λ _ c. ⊎-elim (λ (w : width l ≡ 16). inr (inl (omega (arith, sized c w)))) (λ (w : width l ≡ 32). inl (omega (arith, sized c w))) (width-cases l))
+      (λ _ c. ⊎-elim (λ (w : width l ≡ 16). inr (inr (omega (arith, sized c w)))) (λ (w : width l ≡ 32). inr (inl (omega (arith, sized c w)))) (width-cases l))
 
   -- so dot t is of element t / dots, and element j begins at dot j × dots
   pub element-below : (t : ℕ) → t < breadth l → t / dots l < count l

@@ -14,11 +14,11 @@ use Rattle.settings.specs.declared.Look.{Look}
 use Rattle.settings.specs.Fields.{graphics, css}
 use Rattle.settings.specs.Modes.{width, dots}
 use Rattle.pixel.specs.Dots.{black, bit, oneBit}
-use Rattle.pixel.specs.Graphics.{element}
+use Rattle.pixel.specs.Graphics.{count, element}
 use Rattle.pixel.specs.Picture.{breadth, owner, picture}
 use Rattle.pixel.proofs.Digits.{same-bits, same-pairs}
 use Rattle.pixel.proofs.Owners.{in-graphics, drawn-by, drawn-as, drawn-within}
-use Rattle.pixel.proofs.Elements.{count, by-mode, dot-within, graphic-at}
+use Rattle.pixel.proofs.Elements.{by-mode, dot-within, graphic-at}
 
 -- two rows of numbers are alike below n, or differ somewhere
 module _ (f g : ℕ → ℕ) where

@@ -7,6 +7,10 @@ use Rattle.settings.specs.Fields.{gm0, css}
 use Rattle.settings.specs.Modes.{dots}
 use Rattle.pixel.specs.Dots.{black, oneBit, twoBits}
 
+-- the elements of a byte: eight of one bit, or four of two
+unfoldable pub count : Look → ℕ
+count l = choose (eqb (gm0 l) 1) 8 4
+
 -- element j of a byte: 0 is black and 1 is green or buff by CSS (RG), or the two bits' colour, 4 more with CSS 1 (CG)
 unfoldable pub element : Look → ℕ → ℕ → ℕ
 element l b j = choose (eqb (gm0 l) 1) (oneBit (4 * css l) black b j) (4 * css l + twoBits b j)
