@@ -11,17 +11,26 @@ use denote.Ref.{now}
 use lib.Arith.{digits-div, digits-mod}
 use lib.ListN.{length, getD}
 use Rattle.paper.specs.Told.{Told, done}
+use Rattle.paper.specs.Written.{written}
 use Rattle.paper.proofs.Orders.{done-says}
+use Rattle.paper.proofs.Fills.{written-fills}
 use Rattle.answer.specs.declared.Answer.{Answer}
 use Rattle.answer.specs.Told.{toldOf}
+use Rattle.settings.specs.declared.Look.{Look}
 use Rattle.settings.specs.declared.Settings.{Settings}
-use Rattle.settings.specs.Modes.{width}
-use Rattle.settings.specs.Refusals.{stripLength}
+use Rattle.settings.specs.Modes.{width, border}
+use Rattle.settings.specs.Refusals.{stripLength, frameLength}
 use Rattle.control.specs.Control.{played, wordAfter, playOrder, playTold}
 use Rattle.control.proofs.Plays.{played-more}
-use Rattle.strip.specs.Fetch.{placeOf, fetchPlace, fetchOrder, fetchTold}
+use Rattle.strip.specs.Fetch.{placeOf, fetchPlace, fetchedByte, fetchOrder, fetchTold, stripAfter}
 use Rattle.strip.proofs.Windows.{strip-byte}
-use Rattle.claims.proofs.Calls.{Lent, Plays, Fetches}
+use Rattle.strip.proofs.Fetches.{strip-done, strip-same-length}
+use Rattle.pixel.specs.Picture.{picture}
+use Rattle.frame.specs.Draw.{drawOrder, drawTold}
+use Rattle.frame.proofs.Draws.{accepted, frame-done}
+use Rattle.screen.specs.Show.{showOrder, showTold}
+use Rattle.screen.proofs.Shows.{fetch-done, draw-done, shown-done}
+use Rattle.claims.proofs.Calls.{Lent, Plays, Fetches, Draws, Shows}
 
 -- the answer is done
 abbrev pub Done : Answer → Type 0
@@ -56,3 +65,43 @@ pub strip-long : (κs : Lfts 2) (s : Settings) (image strip : Lent) (z : Answer)
 unfolding fetchTold
 strip-long κs s image strip z out p d =
     ap (λ (t : Told). t .value) (p .0 ∙ done-says (done (stripLength (s .look))) refl (fetchOrder s (length (now image)) (length (now strip))) tt (rw (p .0) at d))
+
+-- (iii) Each pixel is that of the picture, and the value told is the border.
+pub frame-pixels : (κs : Lfts 3) (l : Look) (font strip frame : Lent) (z : Answer) (out : List ℕ) → Draws κs l font strip frame z out → Done z
+    → (k : ℕ) → k < frameLength → getD out k 0 ≡ picture l (now font) (now strip) k
+frame-pixels κs l font strip frame z out p d k h =
+    let e = rw (p .0) at d in
+    rw (p .1, frame-done l (now font) (now strip) (now frame) e)
+    (written-fills (picture l (now font) (now strip)) frameLength (now frame) (accepted l (length (now font)) (length (now strip)) (length (now frame)) e .frame-long) .is k (omega arith) h)
+
+pub frame-border : (κs : Lfts 3) (l : Look) (font strip frame : Lent) (z : Answer) (out : List ℕ) → Draws κs l font strip frame z out → Done z → value z ≡ border l
+unfolding drawTold drawOrder
+frame-border κs l font strip frame z out p d =
+    ap (λ (t : Told). t .value) (p .0 ∙ done-says (done (border l)) refl (drawOrder l (length (now font)) (length (now strip)) (length (now frame))) tt (rw (p .0) at d))
+
+-- Both at once gives the same strip, the picture of that strip, and the border.
+module _ (κs : Lfts 4) (s : Settings) (image font strip frame : Lent) (z : Answer) (bytes pixels : List ℕ) (p : Shows κs s image font strip frame z bytes pixels) (d : Done z) where
+  told-done : showTold s (length (now image)) (length (now font)) (length (now strip)) (length (now frame)) .number ≡ 0
+  told-done = rw (p .0) at d
+
+  strip-left : bytes ≡ stripAfter s (now image) (now strip)
+  strip-left = p .1 .0 ∙ shown-done s (now image) (now font) (now strip) (now frame) _ _ told-done
+
+  pub shown-byte : (k : ℕ) → k < stripLength (s .look) → getD bytes k 0 ≡ fetchedByte s (now image) k
+  shown-byte k h = rw strip-left (strip-byte s (now image) (now strip) (fetch-done s (length (now image)) (length (now font)) (length (now strip)) (length (now frame)) told-done) k h)
+
+  pub shown-pixel : (k : ℕ) → k < frameLength → getD pixels k 0 ≡ picture (s .look) (now font) bytes k
+  shown-pixel k h =
+      let long = strip-same-length s (now image) (now strip) in
+      let e : drawTold (s .look) (length (now font)) (length (stripAfter s (now image) (now strip))) (length (now frame)) .number ≡ 0 =
+      rw long (draw-done s (length (now image)) (length (now font)) (length (now strip)) (length (now frame)) told-done) in
+      let w = p .1 .1 ∙ shown-done s (now image) (now font) (now strip) (now frame) _ _ told-done ∙ frame-done (s .look) (now font) (stripAfter s (now image) (now strip)) (now frame) e in
+      rw (w, strip-left)
+      (written-fills (picture (s .look) (now font) (stripAfter s (now image) (now strip))) frameLength (now frame)
+      (accepted (s .look) (length (now font)) (length (stripAfter s (now image) (now strip))) (length (now frame)) e .frame-long) .is k (omega arith) h)
+
+  pub shown-border : value z ≡ border (s .look)
+  unfolding showTold
+  shown-border =
+      ap (λ (t : Told). t .value)
+      (p .0 ∙ done-says (done (border (s .look))) refl (showOrder s (length (now image)) (length (now font)) (length (now strip)) (length (now frame))) tt (rw (p .0) at d))

@@ -4,3 +4,4 @@ pub mod Operations
 pub mod Calls
 pub mod Demand1
 pub mod Demand2
+pub mod Demand3

@@ -7,6 +7,8 @@ use Rattle.settings.proofs.Unique as settings
 use Rattle.control.proofs.Unique as control
 use Rattle.counter.proofs.Unique as counter
 use Rattle.strip.proofs.Unique as strip
+use Rattle.frame.proofs.Unique as frame
+use Rattle.screen.proofs.Unique as screen
 
 abbrev pub operations : List Operation
 operations =
@@ -32,6 +34,8 @@ operations =
     ∷ counter.step-op
     ∷ counter.line-end-op
     ∷ strip.fetch-op
+    ∷ frame.draw-op
+    ∷ screen.show-op
     ∷ []
 
 -- each of them takes every input and fixes its outcome
@@ -59,6 +63,8 @@ all-fix =
     & counter.step-fixes
     & counter.line-end-fixes
     & strip.fetch-fixes
+    & frame.draw-fixes
+    & screen.show-fixes
     & none
 
 -- the functions that the list is of, by the names that the compiler has for them
@@ -85,5 +91,7 @@ pub named : map (λ o. o .key) operations
     ∷ "counter::Counter::step"
     ∷ "counter::Counter::line_end"
     ∷ "strip::fetch"
+    ∷ "frame::draw"
+    ∷ "screen::show"
     ∷ []
 named = refl

@@ -11,7 +11,8 @@ use denote.Enum.Declared.{tagOf}
 use Rattle.paper.specs.Told.{done}
 use Rattle.paper.specs.Written.{written, Filled}
 use Rattle.paper.proofs.Orders.{done-when}
-use Rattle.paper.proofs.Fills.{filled-written}
+use Rattle.paper.proofs.Choices.{of-both}
+use Rattle.paper.proofs.Fills.{filled-written, length-written}
 use Rattle.answer.specs.declared.Answer.{Answer}
 use Rattle.answer.specs.Told.{toldOf}
 use Rattle.answer.proofs.Answer.{the-type}
@@ -40,6 +41,11 @@ module _ (s : Settings) (image strip : List ℕ) where
   pub strip-refused : eqb number 0 ≡ false → stripAfter s image strip ≡ strip
   unfolding stripAfter
   strip-refused e = rw e
+
+  -- a call keeps the strip's length
+  pub strip-same-length : length (stripAfter s image strip) ≡ length strip
+  unfolding stripAfter
+  strip-same-length = of-both (λ (x : List ℕ). length x ≡ length strip) (eqb number 0) (length-written (fetchedByte s image) (stripLength (s .look)) strip) refl
 
   -- the same by the arms of `if let Answer::Done(_)`
   module _ (a : Answer) (told : toldOf a ≡ fetchTold s (length image) (length strip)) where
