@@ -3,3 +3,4 @@ pub mod Choose
 pub mod Told
 pub mod Order
 pub mod Fixes
+pub mod Part
