@@ -38,6 +38,14 @@ hex-digit n h =
       rw (lt-ltb n 10 k) (or-left _ (between 65 70 (48 + n)) (between-of 48 57 (48 + n) (omega arith) (omega arith)), rw (lt-ltb (48 + n) 58 (omega arith)) (omega arith)))
     (le-or-lt 10 n)
 
+-- no digit lies below 48
+pub lowest : (b : ℕ) → hexByte b ≡ true → 48 ≤ b
+lowest b h =
+    ⊎-elim
+    (λ (k : between 48 57 b ≡ true). between-le 48 57 b k .0)
+    (λ (k : between 65 70 b ≡ true). let l = between-le 65 70 b k in omega arith)
+    (or-split (between 48 57 b) (between 65 70 b) h)
+
 -- ---- n digits
 pow-pos : (n : ℕ) → 0 < 16 ^ n
 pow-pos n = one-le-pow n 16 (zero-lt-suc 15)

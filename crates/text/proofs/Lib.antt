@@ -9,3 +9,5 @@ pub mod Runs
 pub mod Repeats
 pub mod Exclusions
 pub mod Hexes
+pub mod Back
+pub mod Scans

@@ -44,6 +44,16 @@ common (k ∷ ks) (b ∷ s) = choose (eqb b k) (suc (common ks s)) 0
 abbrev pub readFixed : List ℕ → List ℕ → Reading (Unit {0})
 readFixed k s = choose (leb (length k) (common k s)) (got tt (length k)) (stuck (common k s))
 
+-- a fixed word and then a code, whose value it has
+abbrev pub led : {X : Type 0} → List ℕ → Code X → Code X
+led k C = record { Valid = C .Valid; text = λ v. k ++ C .text v }
+
+abbrev pub second : {X Y : Type 0} → X × Y → Y
+second p = p .1
+
+abbrev pub readLed : {X : Type 0} → List ℕ → (List ℕ → Reading X) → List ℕ → Reading X
+readLed k f s = mapped second (andThen s (readFixed k s) (λ _ r. f r))
+
 -- ---- a closed run: bytes of a class, at least lo and at most hi, and then the byte e
 abbrev pub All : (ℕ → Bool) → List ℕ → Type 0
 All p [] = Unit {0}

@@ -1,0 +1,6 @@
+-- The laws of the sheet.
+pub mod Numbers
+pub mod Keys
+pub mod Grammar
+pub mod Stepped
+pub mod Counting

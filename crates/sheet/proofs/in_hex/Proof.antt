@@ -1,0 +1,21 @@
+use borrow.Author.Needs.{needs}
+use Rattle.sheet.proofs.in_hex.Statement.{statement}
+use Rattle.sheet.proofs.in_hex.Tie as tie
+use Rattle.sheet.proofs.in_hex.Reads as reads
+use Rattle.sheet.proofs.in_hex.Lts as lts
+use Rattle.sheet.proofs.within.Reads as within-reads
+
+-- src/lib.rt:77:5
+within-requires : tie.Need-within-requires
+within-requires c κs = search needs
+
+-- src/lib.rt:77:29
+within-requires-2 : tie.Need-within-requires-2
+within-requires-2 c κs = search needs
+
+-- src/lib.rt:74:1
+returns : tie.Need-returns
+returns c = rw (c .before .within .ensures, c .within2 .ensures)
+
+pub in-hex-spec : {M : Type 1} → statement M
+in-hex-spec = tie.close (tie.spec within-requires within-requires-2 returns)

@@ -1,0 +1,100 @@
+use borrow.Author.Needs.{needs}
+use native.Mathlib.Omega.{arith}
+use Prim.Native.Nat.{ℕ, _+_, _-_, _≤_, _<_, suc}
+use mathlib.Core.Path.{_≡_, refl, sym, _∙_, ap}
+use lib.ListN.{length, drop, getD}
+use denote.Ref.{now}
+use borrow.Author.Tests.{not-true, not-false}
+use mathlib.Core.Bool.{Bool, true, false}
+use Rattle.text.specs.Combine.{span}
+use Rattle.sheet.specs.Steps.{classOf}
+use Rattle.text.proofs.Scans.{span-over, span-end, span-off, span-more, span-start}
+use Rattle.sheet.proofs.run.Statement.{statement}
+use Rattle.sheet.proofs.run.Tie as tie
+use Rattle.sheet.proofs.run.Reads as reads
+use Rattle.sheet.proofs.run.Lts as lts
+use Rattle.sheet.proofs.in_class.Reads as in-class-reads
+
+abbrev Inv-loop : tie.InvT-loop
+Inv-loop s at class most n₀ n = (at + n ≤ length s) × (span (classOf class) most (drop at s) ≡ n + span (classOf class) (most - n) (drop (at + n) s))
+
+abbrev μ-loop : tie.MeasureT-loop
+μ-loop s at class most n₀ n = most - n
+
+-- src/lib.rt:60:5
+loop-holds : tie.Need-loop-holds Inv-loop μ-loop
+loop-holds c =
+    let a = c .before .args in
+    (omega arith, span-start (classOf (a .class)) (a .most) (a .at) (now (a .s)))
+
+-- src/lib.rt:61:12
+sub-if1 : tie.Need-sub-if1 Inv-loop μ-loop
+sub-if1 c = omega arith
+
+-- src/lib.rt:62:13
+returns : tie.Need-returns Inv-loop μ-loop
+returns c =
+    let l = c .before .before .loop in
+    let a = c .before .before .before .before .args in
+    (omega (arith, l .inv .1, span-end (classOf (a .class)) (a .most) (l .n) (a .at) (now (a .s)) (omega arith)), omega arith)
+
+-- src/lib.rt:64:30
+add-in-class : tie.Need-add-in-class Inv-loop μ-loop
+add-in-class c = omega arith
+
+-- src/lib.rt:64:28
+shared-slice-read-in-class : tie.Need-shared-slice-read-in-class Inv-loop μ-loop
+shared-slice-read-in-class c = omega arith
+
+-- src/lib.rt:64:13
+in-class-requires : tie.Need-in-class-requires Inv-loop μ-loop
+in-class-requires c κs = search needs
+
+-- src/lib.rt:65:13
+returns-2 : tie.Need-returns-2 Inv-loop μ-loop
+returns-2 c =
+    let l = c .before .before .before .before .before .loop in
+    let a = c .before .before .before .before .before .before .before .args in
+    let e : classOf (a .class) (getD (now (a .s)) (a .at + l .n) 0) ≡ false = sym (c .before .in-class .ensures) ∙ not-true _ (c .if2 .taken) in
+    (omega (arith, l .inv .1, span-off (classOf (a .class)) (a .most) (l .n) (a .at) (now (a .s)) (omega arith) (omega arith) e), omega arith)
+
+-- src/lib.rt:67:9
+add-n : tie.Need-add-n Inv-loop μ-loop
+add-n c = omega arith
+
+-- src/lib.rt:60:5
+loop-less : tie.Need-loop-less Inv-loop μ-loop
+loop-less c = omega arith
+
+-- src/lib.rt:60:5
+loop-again : tie.Need-loop-again Inv-loop μ-loop
+loop-again c =
+    let l = c .before .before .before .before .before .loop in
+    let a = c .before .before .before .before .before .before .before .args in
+    let e : classOf (a .class) (getD (now (a .s)) (a .at + l .n) 0) ≡ true = sym (c .before .in-class .ensures) ∙ not-false _ (c .if2 .left) in
+    (omega arith, omega (arith, l .inv .1, span-more (classOf (a .class)) (a .most) (l .n) (a .at) (now (a .s)) (omega arith) (omega arith) e))
+
+-- src/lib.rt:54:1
+returns-3 : tie.Need-returns-3 Inv-loop μ-loop
+returns-3 c =
+    let l = c .before .loop in
+    let a = c .before .before .before .args in
+    (omega (arith, l .inv .1, span-over (classOf (a .class)) (a .most) (l .n) (a .at) (now (a .s)) (omega arith) (drop (a .at + l .n) (now (a .s)))), omega arith)
+
+pub run-spec : {M : Type 1} → statement M
+run-spec =
+    tie.close
+    (tie.spec
+    Inv-loop
+    μ-loop
+    loop-holds
+    sub-if1
+    returns
+    add-in-class
+    shared-slice-read-in-class
+    in-class-requires
+    returns-2
+    add-n
+    loop-less
+    loop-again
+    returns-3)

@@ -1,0 +1,334 @@
+// The sheet, read where it lies: its fields, its deed and its annotation lines as parts of the lent bytes.
+use answer::Answer;
+ghost use mathlib.Core.Path.{_≡_};
+ghost use Prim.Native.Nat.{ℕ, _+_, _-_, _*_, _<_, _≤_};
+ghost use mathlib.Core.Bool.{true, false};
+ghost use lib.ListN.{length, take, drop};
+ghost use Rattle.paper.specs.Part.{PartOf};
+ghost use Rattle.answer.specs.Told.{toldOf};
+ghost use Rattle.text.specs.Combine.{All, span, common, readClosed, readLed, readTimes};
+ghost use Rattle.text.specs.Hex.{between, hexByte, unhex, hexValue};
+ghost use Rattle.sheet.specs.Sheet.{deedByte, keyByte, valueByte, same};
+ghost use Rattle.sheet.specs.Read.{closing as closingRead, more, readSecond, readNumber, readCount, readAt, readAnnotation, readAnnotations};
+ghost use Rattle.sheet.specs.Steps.{classOf, stepOf, countedOf, freeKey};
+
+// The fixed keys, as they stand in a sheet and in a report.
+pub const DEED_KEY: [u8; 5] = *b"deed=";
+pub const PINS_KEY: [u8; 5] = *b"pins=";
+pub const WRITES_KEY: [u8; 7] = *b"writes=";
+pub const AT_KEY: [u8; 3] = *b"at=";
+
+// The classes of bytes that fields are made of.
+enum Class {
+    Deed,
+    Hex,
+    Key,
+    Value,
+}
+
+// How far a reading goes: whether it is whole, and its number of bytes or the place where it sticks.
+struct Step {
+    whole: bool,
+    size: usize,
+}
+
+// How far a reading goes, and a number that it finds.
+struct Counted {
+    whole: bool,
+    size: usize,
+    count: usize,
+}
+
+// How far a reading goes, and the write addresses that it finds.
+struct Writes {
+    whole: bool,
+    size: usize,
+    writes: [u16; 64],
+}
+
+// What one pass over a sheet finds: its fields, the length of its deed and where its annotations begin, or the place where it is broken.
+struct Outline {
+    whole: bool,
+    place: usize,
+    deed: usize,
+    pins: u8,
+    writes: [u16; 64],
+    write_count: usize,
+    tail: usize,
+    annotations: usize,
+}
+
+// Whether b is a byte from a to z.
+fn within(a: u8, z: u8, b: u8) -> bool
+    ensures { λ r. ⌜ r ≡ between a z b ⌝ }
+{
+    (a <= b) & (b <= z)
+}
+
+fn in_deed(b: u8) -> bool
+    ensures { λ r. ⌜ r ≡ deedByte b ⌝ }
+{
+    within(b'A', b'Z', b) | (within(b'0', b'9', b) | (b == b'-'))
+}
+
+fn in_hex(b: u8) -> bool
+    ensures { λ r. ⌜ r ≡ hexByte b ⌝ }
+{
+    within(b'0', b'9', b) | within(b'A', b'F', b)
+}
+
+fn in_key(b: u8) -> bool
+    ensures { λ r. ⌜ r ≡ keyByte b ⌝ }
+{
+    within(b'a', b'z', b) | (b == b'-')
+}
+
+fn in_value(b: u8) -> bool
+    ensures { λ r. ⌜ r ≡ valueByte b ⌝ }
+{
+    b != 10
+}
+
+fn in_class(class: Class, b: u8) -> bool
+    ensures { λ r. ⌜ r ≡ classOf class b ⌝ }
+{
+    match class {
+        Class::Deed => in_deed(b),
+        Class::Hex => in_hex(b),
+        Class::Key => in_key(b),
+        Class::Value => in_value(b),
+    }
+}
+
+// How many bytes of the class stand from `at` on, counting no further than `most`.
+fn run(s: &[u8], at: usize, class: Class, most: usize) -> usize
+    requires { ⌜ at ≤ length (now s) ⌝ }
+    ensures { λ r. ⌜ r ≡ span (classOf class) most (drop at (now (s .entry))) ⌝ }
+    ensures { λ r. ⌜ at + r ≤ length (now (s .entry)) ⌝ }
+{
+    let mut n: usize = 0;
+    while n < most {
+        if s.len() - at <= n {
+            return n;
+        }
+        if !in_class(class, s[at + n]) {
+            return n;
+        }
+        n += 1;
+    }
+    n
+}
+
+// How many of the bytes of a key stand from `at` on.
+fn common_bytes(s: &[u8], at: usize, key: &[u8]) -> usize
+    requires { ⌜ at ≤ length (now s) ⌝ }
+    ensures { λ r. ⌜ r ≡ common (now (key .entry)) (drop at (now (s .entry))) ⌝ }
+    ensures { λ r. ⌜ (r ≤ length (now (key .entry))) × (at + r ≤ length (now (s .entry))) ⌝ }
+{
+    let mut n: usize = 0;
+    while n < key.len() {
+        if s.len() - at <= n {
+            return n;
+        }
+        if s[at + n] != key[n] {
+            return n;
+        }
+        n += 1;
+    }
+    n
+}
+
+// Bytes of a class from `at` on, at least `lo` and at most `hi`, closed by the byte `end`.
+fn closed_run(s: &[u8], at: usize, class: Class, lo: usize, hi: usize, end: u8) -> Step
+    requires { ⌜ at ≤ length (now s) ⌝ }
+    ensures { λ r. ⌜ r ≡ stepOf (readClosed (classOf class) lo hi end (drop at (now (s .entry)))) ⌝ }
+    ensures { λ r. ⌜ at + r .size ≤ length (now (s .entry)) ⌝ }
+{
+    let n = run(s, at, class, hi);
+    if n < lo {
+        return Step { whole: false, size: n };
+    }
+    if s.len() - at <= n {
+        return Step { whole: false, size: n };
+    }
+    if s[at + n] == end {
+        return Step { whole: true, size: n + 1 };
+    }
+    Step { whole: false, size: n }
+}
+
+// A line from `at` on: the key, then bytes of a class, at least `lo` and at most `hi`, and the line end.
+fn keyed_line(s: &[u8], at: usize, key: &[u8], class: Class, lo: usize, hi: usize) -> Step
+    requires { ⌜ at ≤ length (now s) ⌝ }
+    ensures { λ r. ⌜ r ≡ stepOf (readLed (now (key .entry)) (readClosed (classOf class) lo hi 10) (drop at (now (s .entry)))) ⌝ }
+    ensures { λ r. ⌜ at + r .size ≤ length (now (s .entry)) ⌝ }
+{
+    let n = common_bytes(s, at, key);
+    if n < key.len() {
+        return Step { whole: false, size: n };
+    }
+    let field = closed_run(s, at + n, class, lo, hi, 10);
+    Step { whole: field.whole, size: n + field.size }
+}
+
+// Whether the `n` bytes from `at` on are the key.
+fn is_key(s: &[u8], at: usize, n: usize, key: &[u8]) -> bool
+    requires { ⌜ at + n ≤ length (now s) ⌝ }
+    ensures { λ r. ⌜ r ≡ same (take n (drop at (now (s .entry)))) (now (key .entry)) ⌝ }
+{
+    if n == key.len() {
+        return common_bytes(s, at, key) == n;
+    }
+    false
+}
+
+// Whether the `n` bytes from `at` on, a key with its `=`, are none of the fixed ones.
+fn is_free(s: &[u8], at: usize, n: usize) -> bool
+    requires { ⌜ at + n ≤ length (now s) ⌝ }
+    ensures { λ r. ⌜ r ≡ freeKey (take n (drop at (now (s .entry)))) ⌝ }
+{
+    let deed = is_key(s, at, n, &DEED_KEY);
+    let pins = is_key(s, at, n, &PINS_KEY);
+    let writes = is_key(s, at, n, &WRITES_KEY);
+    let at_key = is_key(s, at, n, &AT_KEY);
+    !(deed | (pins | (writes | at_key)))
+}
+
+// An annotation line from `at` on, with its line end.
+fn annotation_line(s: &[u8], at: usize) -> Step
+    requires { ⌜ at ≤ length (now s) ⌝ }
+    ensures { λ r. ⌜ r ≡ stepOf (readAnnotation (drop at (now (s .entry)))) ⌝ }
+    ensures { λ r. ⌜ at + r .size ≤ length (now (s .entry)) ⌝ }
+{
+    let key = closed_run(s, at, Class::Key, 1, 16, b'=');
+    if !key.whole {
+        return key;
+    }
+    if !is_free(s, at, key.size) {
+        return Step { whole: false, size: key.size - 1 };
+    }
+    let value = closed_run(s, at + key.size, Class::Value, 0, 120, 10);
+    Step { whole: value.whole, size: key.size + value.size }
+}
+
+// How many annotation lines stand from `from` to the end, at most 200.
+fn annotation_lines(s: &[u8], from: usize) -> Counted
+    requires { ⌜ from ≤ length (now s) ⌝ }
+    ensures { λ r. ⌜ r ≡ countedOf length (readAnnotations (drop from (now (s .entry)))) ⌝ }
+    ensures { λ r. ⌜ from + r .size ≤ length (now (s .entry)) ⌝ }
+{
+    let mut at = from;
+    let mut k: usize = 0;
+    while at < s.len() {
+        if 200 <= k {
+            return Counted { whole: false, size: at - from, count: 0 };
+        }
+        let line = annotation_line(s, at);
+        if !line.whole {
+            return Counted { whole: false, size: at - from + line.size, count: 0 };
+        }
+        at += line.size;
+        k += 1;
+    }
+    Counted { whole: true, size: at - from, count: k }
+}
+
+// The number of the hex digit b.
+fn digit_of(b: u8) -> u16
+    requires { ⌜ hexByte b ≡ true ⌝ }
+    ensures { λ r. ⌜ r ≡ unhex b ⌝ }
+{
+    if b < 58 {
+        return (b - 48) as u16;
+    }
+    (b - 55) as u16
+}
+
+// The number that the `n` hex digits from `at` on make.
+fn hex_value(s: &[u8], at: usize, n: usize) -> u16
+    requires { ⌜ (n ≤ 4) × (at + n ≤ length (now s)) ⌝ }
+    requires { ⌜ All hexByte (take n (drop at (now s))) ⌝ }
+    ensures { λ r. ⌜ r ≡ hexValue (take n (drop at (now (s .entry)))) ⌝ }
+{
+    let mut v: u16 = 0;
+    let mut i: usize = 0;
+    while i < n {
+        v = 16 * v + digit_of(s[at + i]);
+        i += 1;
+    }
+    v
+}
+
+// The line end from `at` on, after the number v.
+fn closing(s: &[u8], at: usize, v: u8) -> Counted
+    requires { ⌜ at ≤ length (now s) ⌝ }
+    ensures { λ r. ⌜ r ≡ countedOf (λ n. n) (closingRead v (drop at (now (s .entry)))) ⌝ }
+    ensures { λ r. ⌜ at + r .size ≤ length (now (s .entry)) ⌝ }
+{
+    if s.len() <= at {
+        return Counted { whole: false, size: 0, count: 0 };
+    }
+    if s[at] == 10 {
+        return Counted { whole: true, size: 1, count: v as usize };
+    }
+    Counted { whole: false, size: 0, count: 0 }
+}
+
+// Whether c is a second digit after d: d is not 0, and the number is at most 64.
+fn is_more(d: u8, c: u8) -> bool
+    requires { ⌜ d ≤ 9 ⌝ }
+    ensures { λ r. ⌜ r ≡ more d c ⌝ }
+{
+    if within(b'0', b'9', c) {
+        return (1 <= d) & (10 * d + (c - 48) <= 64);
+    }
+    false
+}
+
+// What follows the first digit d of the number of writes: a second digit or none, and the line end.
+fn second_digit(s: &[u8], at: usize, d: u8) -> Counted
+    requires { ⌜ (at ≤ length (now s)) × (d ≤ 9) ⌝ }
+    ensures { λ r. ⌜ r ≡ countedOf (λ n. n) (readSecond d (drop at (now (s .entry)))) ⌝ }
+    ensures { λ r. ⌜ at + r .size ≤ length (now (s .entry)) ⌝ }
+{
+    if s.len() <= at {
+        return Counted { whole: false, size: 0, count: 0 };
+    }
+    let c = s[at];
+    if is_more(d, c) {
+        let end = closing(s, at + 1, 10 * d + (c - 48));
+        return Counted { whole: end.whole, size: end.size + 1, count: end.count };
+    }
+    closing(s, at, d)
+}
+
+// The number of writes from `at` on, and the line end.
+fn write_number(s: &[u8], at: usize) -> Counted
+    requires { ⌜ at ≤ length (now s) ⌝ }
+    ensures { λ r. ⌜ r ≡ countedOf (λ n. n) (readNumber (drop at (now (s .entry)))) ⌝ }
+    ensures { λ r. ⌜ at + r .size ≤ length (now (s .entry)) ⌝ }
+{
+    if s.len() <= at {
+        return Counted { whole: false, size: 0, count: 0 };
+    }
+    let b = s[at];
+    if within(b'0', b'9', b) {
+        let next = second_digit(s, at + 1, b - 48);
+        return Counted { whole: next.whole, size: next.size + 1, count: next.count };
+    }
+    Counted { whole: false, size: 0, count: 0 }
+}
+
+// The line `writes=` from `at` on.
+fn count_line(s: &[u8], at: usize) -> Counted
+    requires { ⌜ at ≤ length (now s) ⌝ }
+    ensures { λ r. ⌜ r ≡ countedOf (λ n. n) (readCount (drop at (now (s .entry)))) ⌝ }
+    ensures { λ r. ⌜ at + r .size ≤ length (now (s .entry)) ⌝ }
+{
+    let n = common_bytes(s, at, &WRITES_KEY);
+    if n < 7 {
+        return Counted { whole: false, size: n, count: 0 };
+    }
+    let number = write_number(s, at + n);
+    Counted { whole: number.whole, size: n + number.size, count: number.count }
+}
