@@ -18,7 +18,7 @@ use Rattle.text.proofs.Exclusions.{only-right, only-prefix}
 use Rattle.text.proofs.Hexes.{hex-right, hex-prefix}
 use Rattle.text.proofs.Back.{back-none}
 use Rattle.sheet.specs.Sheet.{deedByte, keyByte, valueByte, deedWord, pinsWord, writesWord, atWord, eq, nl, deedLine, pinsLine, countCode, writesLine, atLine, Annotation, free, ValidAnnotation, line, annotationLine, Fields, ValidSheet, front, lines, render, sheets}
-use Rattle.sheet.specs.Read.{readDeed, readPins, readAt, readNumber, readCount, toAnnotation, readAnnotation, readAnnotations, Front, readFront, toFields, readSheet}
+use Rattle.sheet.specs.Read.{readDeed, readPins, readAt, readNumber, readCount, toAnnotation, readAnnotation, readAnnotations, Front, readFront, readLines, toFields, readSheet}
 use Rattle.sheet.proofs.Numbers.{countCode-right, countCode-prefix}
 use Rattle.sheet.proofs.Keys.{fill}
 
@@ -145,13 +145,10 @@ front-prefix : Prefix frontCode
 front-prefix = both-prefix deedLine (λ _. from2) deed-prefix (λ _. both-prefix pinsLine (λ _. from3) pins-prefix (λ _. both-prefix writesLine (λ n. times n atLine) count-prefix (λ n. writes-prefix n)))
 
 -- ---- the sheet
-abbrev linesCode : Code (Front × List Annotation)
+abbrev pub linesCode : Code (Front × List Annotation)
 linesCode = both frontCode (λ _. upTo 200 annotationLine)
 
-abbrev readLines : List ℕ → Reading (Front × List Annotation)
-readLines s = andThen s (readFront s) (λ _ r. readAnnotations r)
-
-lines-right : (s : List ℕ) → Right None linesCode s (readLines s)
+pub lines-right : (s : List ℕ) → Right None linesCode s (readLines s)
 lines-right s = both-right frontCode (λ _. upTo 200 annotationLine) None front-prefix (λ _ _. ([], (tt, zero-le))) s (readFront s) (λ _ r. readAnnotations r) (front-right s) (λ _ _ r. annotations-right r)
 
 -- the number of writes is the length of their list

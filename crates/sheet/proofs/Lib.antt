@@ -4,3 +4,6 @@ pub mod Keys
 pub mod Grammar
 pub mod Stepped
 pub mod Counting
+pub mod Written
+pub mod Fields
+pub mod Annotated

@@ -64,8 +64,11 @@ readFront s =
     andThen s (readCount s) λ n s.
     readTimes readAt n s
 
+abbrev pub readLines : List ℕ → Reading (Front × List Annotation)
+readLines s = andThen s (readFront s) (λ _ r. readAnnotations r)
+
 abbrev pub toFields : Front × List Annotation → Fields
 toFields v = record { deed = v .0 .0; pins = v .0 .1 .0; writes = v .0 .1 .1 .1; annotations = v .1 }
 
 abbrev pub readSheet : List ℕ → Reading Fields
-readSheet s = mapped toFields (andThen s (readFront s) (λ _ r. readAnnotations r))
+readSheet s = mapped toFields (readLines s)

@@ -6,11 +6,13 @@ ghost use mathlib.Core.Bool.{true, false};
 ghost use lib.ListN.{length, take, drop};
 ghost use Rattle.paper.specs.Part.{PartOf};
 ghost use Rattle.answer.specs.Told.{toldOf};
+ghost use Rattle.text.specs.Code.{stuck};
 ghost use Rattle.text.specs.Combine.{All, span, common, readClosed, readLed, readTimes};
 ghost use Rattle.text.specs.Hex.{between, hexByte, unhex, hexValue};
-ghost use Rattle.sheet.specs.Sheet.{deedByte, keyByte, valueByte, same};
-ghost use Rattle.sheet.specs.Read.{closing as closingRead, more, readSecond, readNumber, readCount, readAt, readAnnotation, readAnnotations};
-ghost use Rattle.sheet.specs.Steps.{classOf, stepOf, countedOf, freeKey};
+ghost use Rattle.sheet.specs.Sheet.{deedByte, keyByte, valueByte, same, lines};
+ghost use Rattle.sheet.specs.Read.{closing as closingRead, more, readSecond, readNumber, readCount, readAt, readAnnotation, readAnnotations, readLines};
+ghost use Rattle.sheet.specs.Given.{accepted, toldIn, fieldsIn, padded, deedFrom, tailFrom, annotationFrom, lineAt};
+ghost use Rattle.sheet.specs.Steps.{classOf, stepOf, countedOf, writesOf, outlineOf, freeKey};
 
 // The fixed keys, as they stand in a sheet and in a report.
 pub const DEED_KEY: [u8; 5] = *b"deed=";
@@ -331,4 +333,174 @@ fn count_line(s: &[u8], at: usize) -> Counted
     }
     let number = write_number(s, at + n);
     Counted { whole: number.whole, size: n + number.size, count: number.count }
+}
+
+// `count` lines `at=` from `from` on, with their addresses.
+fn write_lines(s: &[u8], from: usize, count: usize) -> Writes
+    requires { ⌜ (from ≤ length (now s)) × (count ≤ 64) ⌝ }
+    ensures { λ r. ⌜ r ≡ writesOf (readTimes readAt count (drop from (now (s .entry)))) ⌝ }
+    ensures { λ r. ⌜ from + r .size ≤ length (now (s .entry)) ⌝ }
+{
+    let mut out = [0u16; 64];
+    let mut at = from;
+    let mut i: usize = 0;
+    while i < count {
+        let line = keyed_line(s, at, &AT_KEY, Class::Hex, 4, 4);
+        if !line.whole {
+            return Writes { whole: false, size: at - from + line.size, writes: [0u16; 64] };
+        }
+        out[i] = hex_value(s, at + 3, 4);
+        at += line.size;
+        i += 1;
+    }
+    Writes { whole: true, size: at - from, writes: out }
+}
+
+// The outline of a sheet that is broken at the place.
+fn broken(place: usize) -> Outline
+    ensures { λ r. ⌜ r ≡ outlineOf (stuck place) ⌝ }
+{
+    Outline {
+        whole: false,
+        place,
+        deed: 0,
+        pins: 0,
+        writes: [0u16; 64],
+        write_count: 0,
+        tail: 0,
+        annotations: 0,
+    }
+}
+
+// One pass over a sheet, line by line in their order.
+fn survey(s: &[u8]) -> Outline
+    ensures { λ r. ⌜ r ≡ outlineOf (readLines (now (s .entry))) ⌝ }
+{
+    let deed = keyed_line(s, 0, &DEED_KEY, Class::Deed, 1, 16);
+    if !deed.whole {
+        return broken(deed.size);
+    }
+    let pins_at = deed.size;
+    let pins = keyed_line(s, pins_at, &PINS_KEY, Class::Hex, 2, 2);
+    if !pins.whole {
+        return broken(pins_at + pins.size);
+    }
+    let count_at = pins_at + pins.size;
+    let count = count_line(s, count_at);
+    if !count.whole {
+        return broken(count_at + count.size);
+    }
+    let writes_at = count_at + count.size;
+    let lines = write_lines(s, writes_at, count.count);
+    if !lines.whole {
+        return broken(writes_at + lines.size);
+    }
+    let tail = writes_at + lines.size;
+    let notes = annotation_lines(s, tail);
+    if !notes.whole {
+        return broken(tail + notes.size);
+    }
+    let writes = lines.writes;
+    Outline {
+        whole: true,
+        place: 0,
+        deed: deed.size - 6,
+        pins: hex_value(s, pins_at + 5, 2) as u8,
+        writes,
+        write_count: count.count,
+        tail,
+        annotations: notes.count,
+    }
+}
+
+// Where annotation n of a whole sheet lies, the annotation lines beginning at `from`.
+fn annotation_start(s: &[u8], from: usize, n: usize) -> usize
+    requires { ⌜ accepted (now s) ≡ true ⌝ }
+    requires { ⌜ (from ≡ tailFrom (now s)) × (n < length (fieldsIn (now s) .annotations)) ⌝ }
+    ensures { λ r. ⌜ r ≡ annotationFrom (now (s .entry)) n ⌝ }
+{
+    let mut at = from;
+    let mut i: usize = 0;
+    while i < n {
+        let line = annotation_line(s, at);
+        at += line.size;
+        i += 1;
+    }
+    at
+}
+
+// What a sheet holds: its pins, its write addresses with 0 in the places that are not used, and its number of annotations.
+// A refused sheet's answer has the place; its fields are 0.
+pub struct Sheet {
+    pub answer: Answer,
+    pub pins: u8,
+    pub writes: [u16; 64],
+    pub write_count: usize,
+    pub annotations: usize,
+}
+
+// Reads a sheet.
+pub fn read(sheet: &[u8]) -> Sheet
+    ensures { λ r. ⌜ toldOf (r .answer) ≡ toldIn (now (sheet .entry)) ⌝ }
+    ensures { λ r. ⌜ r .pins ≡ fieldsIn (now (sheet .entry)) .pins ⌝ }
+    ensures { λ r. ⌜ r .writes ≡ padded 64 (fieldsIn (now (sheet .entry)) .writes) ⌝ }
+    ensures { λ r. ⌜ r .«write_count» ≡ length (fieldsIn (now (sheet .entry)) .writes) ⌝ }
+    ensures { λ r. ⌜ r .annotations ≡ length (fieldsIn (now (sheet .entry)) .annotations) ⌝ }
+{
+    let found = survey(sheet);
+    let writes = found.writes;
+    if found.whole {
+        return Sheet {
+            answer: Answer::Done(0),
+            pins: found.pins,
+            writes,
+            write_count: found.write_count,
+            annotations: found.annotations,
+        };
+    }
+    Sheet {
+        answer: Answer::BrokenSheet(found.place),
+        pins: 0,
+        writes: [0u16; 64],
+        write_count: 0,
+        annotations: 0,
+    }
+}
+
+// The deed.
+pub fn deed(sheet: &[u8]) -> &[u8]
+    ensures { λ r. ⌜ PartOf (sheet .entry) r (deedFrom (now (sheet .entry))) (length (fieldsIn (now (sheet .entry)) .deed)) ⌝ }
+{
+    let found = survey(sheet);
+    if found.whole {
+        let end = 5 + found.deed;
+        return &sheet[5..end];
+    }
+    &sheet[..0]
+}
+
+// Annotation line n from 0, without its line end; past the last, and of a refused sheet, empty.
+pub fn annotation(sheet: &[u8], n: usize) -> &[u8]
+    ensures { λ r. ⌜ PartOf (sheet .entry) r (annotationFrom (now (sheet .entry)) n) (length (lineAt (fieldsIn (now (sheet .entry)) .annotations) n)) ⌝ }
+{
+    let found = survey(sheet);
+    if n < found.annotations {
+        let from = annotation_start(sheet, found.tail, n);
+        let line = annotation_line(sheet, from);
+        let end = from + line.size - 1;
+        return &sheet[from..end];
+    }
+    &sheet[..0]
+}
+
+// All annotation lines as they stand, with their line ends: the end of the sheet.
+pub fn tail(sheet: &[u8]) -> &[u8]
+    ensures { λ r. ⌜ PartOf (sheet .entry) r (tailFrom (now (sheet .entry))) (length (lines (fieldsIn (now (sheet .entry)) .annotations))) ⌝ }
+{
+    let found = survey(sheet);
+    if found.whole {
+        let from = found.tail;
+        return &sheet[from..];
+    }
+    &sheet[..0]
 }

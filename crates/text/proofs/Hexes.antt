@@ -1,14 +1,15 @@
 -- Numbers in hex are read rightly, whatever the number of digits.
 use Prim.Native.Nat.{ℕ, zero, suc, _+_, _-_, _*_, _/_, _%_, _^_, _≤_, _<_}
 use native.Mathlib.Omega.{arith}
-use native.Mathlib.Nat.{le-refl, le-of-eq, mod-lt, div-lt-iff-lt-mul, div-add-mod', pow-suc, one-le-pow, mul-assoc, mul-comm, mul-one, zero-lt-suc, add-mul}
+use native.Mathlib.Nat.{le-refl, le-of-suc-le-suc, pow-le-pow-right, le-of-eq, mod-lt, div-lt-iff-lt-mul, div-add-mod', pow-suc, one-le-pow, mul-assoc, mul-comm, mul-one, zero-lt-suc, add-mul}
 use mathlib.Core.Path.{_≡_, refl, sym, _∙_, ap, subst}
 use mathlib.Core.Logic.{⊎-elim}
 use mathlib.Core.List.{List, [], _∷_, _++_}
-use mathlib.Core.Bool.{true, false}
+use mathlib.Core.Bool.{Bool, true, false}
 use borrow.Author.Tests.{lt-ltb, le-ltb}
 use lib.Arith.{digits-lt, digits-div, digits-mod}
-use lib.ListN.{length}
+use lib.ListN.{length, drop, getD, drop-of-length-le}
+use lib.Seq.{drop-cons}
 use Rattle.text.specs.Code.{Any, Right, Prefix}
 use Rattle.text.specs.Combine.{All, closed, readClosed}
 use Rattle.text.specs.Hex.{between, hexByte, hexDigit, unhex, hex, hexCode, hexFrom, hexValue, readHex}
@@ -125,3 +126,24 @@ module _ (n e : ℕ) (off : hexByte e ≡ false) where
 
   pub hex-prefix : Prefix (hexCode n e)
   hex-prefix = same-prefix (closed hexByte n n e) (hexCode n e) hexValue (hex-same n e) (closed-prefix hexByte e off n n)
+
+-- ---- steps of a loop over the digits w
+pub value-more : (w : List ℕ) (i v : ℕ) → i < length w → hexFrom v (drop i w) ≡ hexFrom (16 * v + unhex (getD w i 0)) (drop (i + 1) w)
+value-more w i v h =
+    ap (hexFrom v) (drop-cons w i 0 h) ∙ ap (λ (j : ℕ). hexFrom (16 * v + unhex (getD w i 0)) (drop j w)) (let q : suc i ≡ i + 1 = omega arith in q)
+
+pub value-all : (w : List ℕ) (i v : ℕ) → length w ≤ i → hexFrom v (drop i w) ≡ v
+value-all w i v h = ap (hexFrom v) (drop-of-length-le w h)
+
+pub bound-more : (v d i : ℕ) → v < 16 ^ i → d < 16 → 16 * v + d < 16 ^ (i + 1)
+bound-more v d i h k =
+    subst (λ (x : ℕ). 16 * v + d < x) (sym (pow-suc 16 i) ∙ ap (λ (j : ℕ). 16 ^ j) (let q : suc i ≡ i + 1 = omega arith in q))
+    (let p = 16 ^ i in let q : 16 * v + d < p * 16 = omega arith in q)
+
+pub bound-four : (v i : ℕ) → i < 4 → v < 16 ^ i → v < 4096
+bound-four v i h k = let p : 16 ^ i ≤ 4096 = pow-le-pow-right (zero-lt-suc 15) (let q : i ≤ 3 = omega arith in q) in omega arith
+
+pub all-at : (p : ℕ → Bool) (w : List ℕ) (i : ℕ) → All p w → i < length w → p (getD w i 0) ≡ true
+all-at p [] i h k = absurd (omega arith)
+all-at p (b ∷ w) zero h k = h .0
+all-at p (b ∷ w) (suc i) h k = all-at p w i (h .1) (le-of-suc-le-suc k)

@@ -11,3 +11,4 @@ pub mod Exclusions
 pub mod Hexes
 pub mod Back
 pub mod Scans
+pub mod Passed

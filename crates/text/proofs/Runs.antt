@@ -28,7 +28,8 @@ and-false : (a : Bool) → a && false ≡ false
 and-false true = refl
 and-false false = refl
 
-all-replicate : (p : ℕ → Bool) (z : ℕ) → p z ≡ true → (n : ℕ) → All p (replicate n z)
+-- a class that has a byte has runs of every length
+pub all-replicate : (p : ℕ → Bool) (z : ℕ) → p z ≡ true → (n : ℕ) → All p (replicate n z)
 all-replicate p z h zero = tt
 all-replicate p z h (suc n) = (h, all-replicate p z h n)
 

@@ -1,3 +1,15 @@
+use native.Mathlib.Omega.{arith}
+use denote.Ref.{now}
+use Prim.Native.Nat.{ℕ}
+use mathlib.Core.Path.{sym, _∙_, ap}
+use mathlib.Core.List.{List}
+use borrow.Author.Tests.{not-true, not-false}
+use lib.ListN.{drop}
+use lib.Seq.{drop-drop}
+use Rattle.text.specs.Combine.{readClosed}
+use Rattle.sheet.specs.Sheet.{valueByte}
+use Rattle.sheet.specs.Steps.{stepOf}
+use Rattle.sheet.proofs.Annotated.{key-stuck, key-read, key-taken, key-free}
 use borrow.Author.Needs.{needs}
 use Rattle.sheet.proofs.annotation_line.Statement.{statement}
 use Rattle.sheet.proofs.annotation_line.Tie as tie
@@ -12,7 +24,11 @@ closed-run-requires c κs = search needs
 
 -- src/lib.rt:205:9
 returns : tie.Need-returns
-returns c = ?
+returns c =
+    let a = c .before .before .before .before .args in
+    let l = drop (a .at) (now (a .s)) in
+    let k = c .before .before .closed-run in
+    (key-stuck l (k .result) (k .ensures .0) (not-true _ (c .if1 .taken)), k .ensures .1)
 
 -- src/lib.rt:207:9
 is-free-requires : tie.Need-is-free-requires
@@ -20,11 +36,19 @@ is-free-requires c κs = search needs
 
 -- src/lib.rt:208:43
 sub-t8 : tie.Need-sub-t8
-sub-t8 c = ?
+sub-t8 c =
+    let a = c .before .before .before .before .before .before .before .args in
+    let l = drop (a .at) (now (a .s)) in
+    let k = c .before .before .before .before .before .closed-run in
+    key-read l (k .result) (k .ensures .0) (not-false _ (c .before .before .before .if1 .left)) .some
 
 -- src/lib.rt:208:9
 returns-2 : tie.Need-returns-2
-returns-2 c = ?
+returns-2 c =
+    let a = c .before .before .before .before .before .before .before .args in
+    let l = drop (a .at) (now (a .s)) in
+    let k = c .before .before .before .before .before .closed-run in
+    (key-taken l (k .result) (k .ensures .0) (not-false _ (c .before .before .before .if1 .left)) (sym (c .before .before .is-free .ensures) ∙ not-true _ (c .before .if2 .taken)), omega (arith, k .ensures .1))
 
 -- src/lib.rt:210:31
 add-closed-run : tie.Need-add-closed-run
@@ -40,7 +64,12 @@ add-t9 c = search needs
 
 -- src/lib.rt:198:1
 returns-3 : tie.Need-returns-3
-returns-3 c = ?
+returns-3 c =
+    let a = c .before .before .before .before .before .before .before .before .before .before .args in
+    let l = drop (a .at) (now (a .s)) in
+    let k = c .before .before .before .before .before .before .before .before .closed-run in
+    let v = c .before .before .closed-run2 in
+    (key-free l (k .result) (k .ensures .0) (not-false _ (c .before .before .before .before .before .before .if1 .left)) (sym (c .before .before .before .before .before .is-free .ensures) ∙ not-false _ (c .before .before .before .before .if2 .left)) (v .result) (v .ensures .0 ∙ ap (λ (x : List ℕ). stepOf (readClosed valueByte 0 120 10 x)) (sym (drop-drop (k .result .size) (a .at) (now (a .s))))), omega (arith, v .ensures .1))
 
 pub annotation-line-spec : {M : Type 1} → statement M
 annotation-line-spec =

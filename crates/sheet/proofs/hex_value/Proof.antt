@@ -1,3 +1,12 @@
+use native.Mathlib.Omega.{arith}
+use denote.Ref.{now}
+use lib.Seq.{length-take-le}
+use Rattle.text.proofs.Hexes.{hex-byte, value-more, value-all, bound-more, bound-four}
+use Rattle.sheet.proofs.Fields.{digit-at}
+use Prim.Native.Nat.{ℕ, _+_, _-_, _*_, _^_, _≤_, _<_}
+use mathlib.Core.Path.{_≡_, refl, sym, _∙_, ap, subst}
+use lib.ListN.{length, take, drop, getD, length-drop}
+use Rattle.text.specs.Hex.{hexFrom, hexValue, unhex}
 use Rattle.sheet.proofs.hex_value.Statement.{statement}
 use Rattle.sheet.proofs.hex_value.Tie as tie
 use Rattle.sheet.proofs.hex_value.Reads as reads
@@ -5,50 +14,69 @@ use Rattle.sheet.proofs.hex_value.Lts as lts
 use Rattle.sheet.proofs.digit_of.Reads as digit-of-reads
 
 abbrev Inv-loop : tie.InvT-loop
-Inv-loop s at n v₀ i₀ v i = ?
+Inv-loop s at n v₀ i₀ v i =
+    (i ≤ n) × (v < 16 ^ i) × (hexFrom v (drop i (take n (drop at s))) ≡ hexValue (take n (drop at s)))
 
 abbrev μ-loop : tie.MeasureT-loop
-μ-loop s at n v₀ i₀ v i = ?
+μ-loop s at n v₀ i₀ v i = n - i
+
+-- the digit that is read is below 16
+digit-lt : (c : tie.After-digit-of Inv-loop μ-loop) → c .digit-of .result < 16
+digit-lt c =
+    let a = c .before .before .before .before .before .args in
+    let b = digit-at (now (a .s)) (a .at) (a .n) (c .before .before .before .loop .i) (omega arith) (omega arith) (c .before .before .before .before .before .pre .1) .1 in
+    subst (λ (x : ℕ). x < 16) (sym (c .digit-of .ensures)) (hex-byte (getD (now (a .s)) (a .at + c .before .before .before .loop .i) 0) b .0)
 
 -- src/lib.rt:255:5
 loop-holds : tie.Need-loop-holds Inv-loop μ-loop
-loop-holds c = ?
+loop-holds c = (omega arith, omega arith, refl)
 
 -- src/lib.rt:256:13
 mul-v : tie.Need-mul-v Inv-loop μ-loop
-mul-v c = ?
+mul-v c = omega (arith, bound-four (c .before .loop .v) (c .before .loop .i) (omega arith) (c .before .loop .inv .1))
 
 -- src/lib.rt:256:33
 add-digit-of : tie.Need-add-digit-of Inv-loop μ-loop
-add-digit-of c = ?
+add-digit-of c = omega arith
 
 -- src/lib.rt:256:31
 shared-slice-read-digit-of : tie.Need-shared-slice-read-digit-of Inv-loop μ-loop
-shared-slice-read-digit-of c = ?
+shared-slice-read-digit-of c = omega arith
 
 -- src/lib.rt:256:22
 digit-of-requires : tie.Need-digit-of-requires Inv-loop μ-loop
-digit-of-requires c κs = ?
+digit-of-requires c κs =
+    let a = c .before .before .before .before .args in
+    digit-at (now (a .s)) (a .at) (a .n) (c .before .before .loop .i) (omega arith) (omega arith) (c .before .before .before .before .pre .1) .1
 
 -- src/lib.rt:256:13
 add-v : tie.Need-add-v Inv-loop μ-loop
-add-v c = ?
+add-v c = omega (arith, digit-lt c, bound-four (c .before .before .before .loop .v) (c .before .before .before .loop .i) (omega arith) (c .before .before .before .loop .inv .1))
 
 -- src/lib.rt:257:9
 add-i : tie.Need-add-i Inv-loop μ-loop
-add-i c = ?
+add-i c = omega arith
 
 -- src/lib.rt:255:5
 loop-less : tie.Need-loop-less Inv-loop μ-loop
-loop-less c = ?
+loop-less c = omega arith
 
 -- src/lib.rt:255:5
 loop-again : tie.Need-loop-again Inv-loop μ-loop
-loop-again c = ?
+loop-again c =
+    let a = c .before .before .before .before .before .args in
+    let l = c .before .before .before .loop in
+    let d = digit-at (now (a .s)) (a .at) (a .n) (l .i) (omega arith) (omega arith) (c .before .before .before .before .before .pre .1) in
+    let w = take (a .n) (drop (a .at) (now (a .s))) in
+    (omega arith, bound-more (l .v) (c .digit-of .result) (l .i) (l .inv .1) (digit-lt c),
+    ap (λ (x : ℕ). hexFrom (16 * l .v + x) (drop (l .i + 1) w)) (c .digit-of .ensures ∙ ap unhex (d .0)) ∙ sym (value-more w (l .i) (l .v) (omega (arith, d .2))) ∙ l .inv .2)
 
 -- src/lib.rt:248:1
 returns : tie.Need-returns Inv-loop μ-loop
-returns c = ?
+returns c =
+    let a = c .before .before .before .args in
+    let l = c .before .loop in
+    sym (value-all (take (a .n) (drop (a .at) (now (a .s)))) (l .i) (l .v) (omega (arith, length-take-le (a .n) (drop (a .at) (now (a .s))) (omega (arith, length-drop (a .at) (now (a .s))))))) ∙ l .inv .2
 
 pub hex-value-spec : {M : Type 1} → statement M
 hex-value-spec =
