@@ -7,3 +7,5 @@ pub mod Counting
 pub mod Written
 pub mod Fields
 pub mod Annotated
+pub mod Surveyed
+pub mod Parts

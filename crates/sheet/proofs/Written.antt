@@ -8,6 +8,7 @@ use lib.ListN.{length, set, replicate, length-append}
 use lib.Seq.{set-at}
 use Rattle.text.specs.Code.{Reading, got, stuck}
 use Rattle.text.proofs.Passed.{Passed, ahead, passed-none, passed-more}
+use Rattle.text.proofs.Tests.{clash}
 use Rattle.sheet.specs.Given.{padded}
 use Rattle.sheet.specs.Steps.{writesOf}
 use Rattle.sheet.specs.declared.Writes.{Writes}
@@ -50,3 +51,12 @@ filled-all out i p o r f e =
 
 pub filled-stuck : (out : List ℕ) (i p : ℕ) (o r : Reading (List ℕ)) (f : Filled out i p o r) (n : ℕ) → r ≡ stuck n → written false (p + n) (replicate 64 0) ≡ writesOf o
 filled-stuck out i p o r f n e = sym (ap writesOf (f .passed .whole ∙ ap (ahead (f .passed .values) p) e))
+
+-- ---- from what is answered to what is read
+pub written-got : (o : Reading (List ℕ)) (r : Writes) → r ≡ writesOf o → r .whole ≡ true → (l : List ℕ) × (o ≡ got l (r .size)) × (r .writes ≡ padded 64 l)
+written-got (got l n) r e h = (l, ap (got l) (sym (ap (λ (x : Writes). x .size) e)), ap (λ (x : Writes). x .writes) e)
+written-got (stuck n) r e h = absurd (clash h (ap (λ (x : Writes). x .whole) e))
+
+pub written-stuck : (o : Reading (List ℕ)) (r : Writes) → r ≡ writesOf o → r .whole ≡ false → o ≡ stuck (r .size)
+written-stuck (stuck n) r e h = ap stuck (sym (ap (λ (x : Writes). x .size) e))
+written-stuck (got l n) r e h = absurd (clash (ap (λ (x : Writes). x .whole) e) h)

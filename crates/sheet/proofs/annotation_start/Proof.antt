@@ -1,7 +1,13 @@
+use native.Mathlib.Omega.{arith}
+use denote.Ref.{now}
+use Rattle.sheet.specs.Read.{readAnnotation}
+use Rattle.sheet.specs.Steps.{stepOf}
+use Rattle.sheet.specs.declared.Step.{Step}
+use Rattle.sheet.proofs.Parts.{LineIn, line-in, line-from}
 use Prim.Native.Nat.{ℕ, _+_, _-_, _≤_, _<_}
-use mathlib.Core.Path.{_≡_}
+use mathlib.Core.Path.{_≡_, sym, _∙_, ap}
 use lib.ListN.{length, take, drop}
-use Rattle.sheet.specs.Sheet.{lines}
+use Rattle.sheet.specs.Sheet.{line, lines}
 use Rattle.sheet.specs.Given.{tailFrom, fieldsIn}
 use Rattle.sheet.proofs.annotation_start.Statement.{statement}
 use Rattle.sheet.proofs.annotation_start.Tie as tie
@@ -16,33 +22,49 @@ Inv-loop s from n at₀ i₀ at i =
 abbrev μ-loop : tie.MeasureT-loop
 μ-loop s from n at₀ i₀ at i = n - i
 
+-- the line that this turn passes, and where it ends
+here : (c : tie.In-loop Inv-loop μ-loop) → LineIn (now (c .before .before .before .args .s)) (c .before .loop .i)
+here c = line-in (now (c .before .before .before .args .s)) (c .before .loop .i) (c .before .before .before .pre .0) (omega (arith, c .before .before .before .pre .1 .1))
+
+turn : (c : tie.After-struct-known Inv-loop μ-loop) → c .before .before .before .loop .at + c .before .annotation-line .result .size ≡ tailFrom (now (c .before .before .before .before .before .args .s)) + length (lines (take (c .before .before .before .loop .i + 1) (fieldsIn (now (c .before .before .before .before .before .args .s)) .annotations)))
+turn c =
+    let s = now (c .before .before .before .before .before .args .s) in
+    let l = c .before .before .before .loop in
+    let r = c .before .annotation-line in
+    let h = here (c .before .before) in
+    let n : r .result .size ≡ length (line (h .value)) + 1 = ap (λ (x : Step). x .size) (r .ensures .0 ∙ ap (λ (j : ℕ). stepOf (readAnnotation (drop j s))) (l .inv .1) ∙ h .read) in
+    omega (arith, n, l .inv .1, h .next)
+
 -- src/lib.rt:424:5
 loop-holds : tie.Need-loop-holds Inv-loop μ-loop
-loop-holds c = ?
+loop-holds c = (omega arith, c .before .pre .1 .0 ∙ omega arith)
 
 -- src/lib.rt:425:13
 annotation-line-requires : tie.Need-annotation-line-requires Inv-loop μ-loop
-annotation-line-requires c κs = ?
+annotation-line-requires c κs = omega (arith, here c .within, c .before .loop .inv .1)
 
 -- src/lib.rt:426:9
 add-at : tie.Need-add-at Inv-loop μ-loop
-add-at c = ?
+add-at c = omega (arith, turn c, here (c .before .before) .within)
 
 -- src/lib.rt:427:9
 add-i : tie.Need-add-i Inv-loop μ-loop
-add-i c = ?
+add-i c = omega arith
 
 -- src/lib.rt:424:5
 loop-less : tie.Need-loop-less Inv-loop μ-loop
-loop-less c = ?
+loop-less c = omega arith
 
 -- src/lib.rt:424:5
 loop-again : tie.Need-loop-again Inv-loop μ-loop
-loop-again c = ?
+loop-again c = (omega arith, turn c)
 
 -- src/lib.rt:417:1
 returns : tie.Need-returns Inv-loop μ-loop
-returns c = ?
+returns c =
+    let a = c .before .before .before .args in
+    let l = c .before .loop in
+    l .inv .1 ∙ ap (λ (j : ℕ). tailFrom (now (a .s)) + length (lines (take j (fieldsIn (now (a .s)) .annotations)))) (let q : l .i ≡ a .n = omega arith in q) ∙ sym (line-from (now (a .s)) (a .n) (c .before .before .before .pre .1 .1))
 
 pub annotation-start-spec : {M : Type 1} → statement M
 annotation-start-spec =
