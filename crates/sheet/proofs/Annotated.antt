@@ -1,12 +1,12 @@
 -- An annotation line, from what the functions answer of its key and its value.
-use Prim.Native.Nat.{ℕ, zero, suc, _+_, _-_, _≤_, _<_}
+use Prim.Native.Nat.{ℕ, _+_, _-_, _≤_}
 use native.Mathlib.Omega.{arith}
 use mathlib.Core.Path.{_≡_, refl, sym, _∙_, ap, subst}
-use mathlib.Core.List.{List, [], _∷_, _++_}
-use mathlib.Core.Bool.{Bool, true, false}
+use mathlib.Core.List.{List, []}
+use mathlib.Core.Bool.{true, false}
 use lib.ListN.{length, take, drop, length-append}
-use Rattle.text.specs.Code.{Code, Reading, got, stuck, Any, Accepted, Right}
-use Rattle.text.specs.Combine.{mapped, shift, andThen, closed, readClosed, readOnly}
+use Rattle.text.specs.Code.{Reading, got, stuck, Any, Accepted, Right}
+use Rattle.text.specs.Combine.{shift, closed, readClosed}
 use Rattle.text.proofs.Runs.{closed-right}
 use Rattle.text.proofs.Back.{got-taken, got-some}
 use Rattle.text.proofs.Passed.{Passed, ahead}
@@ -14,7 +14,6 @@ use Rattle.sheet.specs.Sheet.{keyByte, valueByte, eq, free, Annotation, 
 use Rattle.sheet.specs.Read.{toAnnotation, readAnnotation}
 use Rattle.sheet.specs.Steps.{stepOf, countedOf, freeKey}
 use Rattle.sheet.specs.declared.Step.{Step}
-use Rattle.sheet.specs.declared.Counted.{Counted}
 use Rattle.sheet.proofs.Grammar.{annotation-right, annotation-some}
 use Rattle.sheet.proofs.Keys.{free-with-eq}
 use Rattle.sheet.proofs.Stepped.{step, whole-got, not-whole, step-shift, step-mapped}

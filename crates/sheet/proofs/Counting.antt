@@ -1,11 +1,11 @@
 -- Readings that find a number: from what the functions answer to what is read, and back.
-use Prim.Native.Nat.{ℕ, zero, suc, _+_, _-_, _*_, _≤_, _<_}
+use Prim.Native.Nat.{ℕ, suc, _+_, _-_, _*_, _≤_, _<_}
 use native.Mathlib.Omega.{arith}
 use native.Mathlib.Numerals.{add-one}
-use mathlib.Core.Path.{_≡_, refl, sym, _∙_, ap, subst}
-use mathlib.Core.List.{List, [], _∷_, _++_}
-use mathlib.Core.Bool.{Bool, true, false, _&&_}
-use borrow.Author.Tests.{eq-eqb, ne-eqb, lt-leb}
+use mathlib.Core.Path.{_≡_, refl, sym, _∙_, ap}
+use mathlib.Core.List.{List, _∷_}
+use mathlib.Core.Bool.{Bool, true, false}
+use borrow.Author.Tests.{eq-eqb, ne-eqb}
 use lib.ListN.{length, drop, getD, drop-of-length-le}
 use lib.Seq.{drop-cons}
 use Rattle.paper.specs.Choose.{choose}
@@ -68,7 +68,7 @@ module _ (s : List ℕ) (at : ℕ) where
   second-end d h = rw (drop-of-length-le s h)
 
   pub second-more : (d : ℕ) → at < length s → more d (getD s at 0) ≡ true → (r : Counted) → r ≡ countedOf self (closing (10 * d + (getD s at 0 - 48)) (drop (at + 1) s))
-    → counted (r .whole) (r .size + 1) (r .count) ≡ countedOf self (readSecond d (drop at s))
+      → counted (r .whole) (r .size + 1) (r .count) ≡ countedOf self (readSecond d (drop at s))
   second-more d h m r e =
       counted-bump (closing (10 * d + (getD s at 0 - 48)) (drop (at + 1) s)) r e
       ∙ sym (ap (λ (l : List ℕ). countedOf self (readSecond d l)) (here h) ∙ ap (λ (t : Bool). countedOf self (choose t (bump self (closing (10 * d + (getD s at 0 - 48)) (drop (at + 1) s))) (closing d (getD s at 0 ∷ drop (at + 1) s)))) m)
@@ -85,7 +85,7 @@ module _ (s : List ℕ) (at : ℕ) where
   number-off h m = sym (ap (λ (l : List ℕ). countedOf self (readNumber l)) (here h) ∙ ap (λ (t : Bool). countedOf self (choose t (bump self (readSecond (getD s at 0 - 48) (drop (at + 1) s))) (stuck 0))) m)
 
   pub number-more : at < length s → digit (getD s at 0) ≡ true → (r : Counted) → r ≡ countedOf self (readSecond (getD s at 0 - 48) (drop (at + 1) s))
-    → counted (r .whole) (r .size + 1) (r .count) ≡ countedOf self (readNumber (drop at s))
+      → counted (r .whole) (r .size + 1) (r .count) ≡ countedOf self (readNumber (drop at s))
   number-more h m r e =
       counted-bump (readSecond (getD s at 0 - 48) (drop (at + 1) s)) r e
       ∙ sym (ap (λ (l : List ℕ). countedOf self (readNumber l)) (here h) ∙ ap (λ (t : Bool). countedOf self (choose t (bump self (readSecond (getD s at 0 - 48) (drop (at + 1) s))) (stuck 0))) m)

@@ -1,5 +1,5 @@
 -- What a line with a key holds, where it is read whole.
-use Prim.Native.Nat.{ℕ, zero, suc, _+_, _-_, _≤_, _<_}
+use Prim.Native.Nat.{ℕ, _+_, _≤_, _<_}
 use native.Mathlib.Omega.{arith}
 use native.Mathlib.Nat.{le-refl}
 use mathlib.Core.Path.{_≡_, refl, sym, _∙_, ap, subst}
@@ -7,7 +7,7 @@ use mathlib.Core.List.{List, [], _∷_, _++_, append-assoc}
 use mathlib.Core.Bool.{Bool, true, false}
 use lib.ListN.{length, take, drop, getD, length-append, length-drop, replicate, length-replicate}
 use lib.Seq.{take-at, drop-append-seam, drop-drop, length-take-le, getD-take, getD-drop}
-use Rattle.text.specs.Code.{Code, Reading, got, stuck, Any, Accepted, Right}
+use Rattle.text.specs.Code.{Reading, got, stuck, Any, Accepted, Right}
 use Rattle.text.specs.Combine.{mapped, shift, andThen, All, closed, led, second, readFixed, readClosed, readLed}
 use Rattle.text.specs.Hex.{hexByte, hexValue, readHex}
 use Rattle.text.proofs.Words.{led-right}
@@ -36,17 +36,19 @@ module _ (k : List ℕ) (p : ℕ → Bool) (lo hi z : ℕ) (off : p 10 ≡ false
       go (u, q) =
           let C = led k (closed p lo hi 10) in
           let g : Accepted Any C (drop at s) u (r .size) =
-              subst (Right Any C (drop at s)) q (led-right k (closed p lo hi 10) (replicate lo z) (all-replicate p z on lo, rw length-replicate (le-refl lo), rw length-replicate le) (readClosed p lo hi 10) (closed-right p 10 off z on lo hi le) (drop at s)) in
+          subst (Right Any C (drop at s)) q (led-right k (closed p lo hi 10) (replicate lo z) (all-replicate p z on lo, rw length-replicate (le-refl lo), rw length-replicate le) (readClosed p lo hi 10) (closed-right p 10 off z on lo hi le) (drop at s)) in
           let rest = drop (r .size) (drop at s) in
           let split : drop at s ≡ k ++ (u ++ ((10 ∷ []) ++ rest)) =
-              g .whole ∙ append-assoc k (u ++ (10 ∷ [])) rest ∙ ap (λ (l : List ℕ). k ++ l) (append-assoc u (10 ∷ []) rest) in
+          g .whole ∙ append-assoc k (u ++ (10 ∷ [])) rest ∙ ap (λ (l : List ℕ). k ++ l) (append-assoc u (10 ∷ []) rest) in
           record {
-            bytes = u; here = q; valid = g .valid;
+            bytes = u;
+            here = q;
+            valid = g .valid;
             long = g .size ∙ length-append k (u ++ (10 ∷ [])) ∙ ap (λ (j : ℕ). length k + j) (length-append u (10 ∷ []));
             holds =
                 ap (take (length u)) (sym (drop-drop (length k) at s) ∙ ap (drop (length k)) split ∙ drop-append-seam k (u ++ ((10 ∷ []) ++ rest)))
                 ∙ take-at u ((10 ∷ []) ++ rest) (length u) refl;
-            within = got-within Any C (drop at s) u (r .size) g
+            within = got-within Any C (drop at s) u (r .size) g;
           }
 
 -- a value that is made of what is read
@@ -56,6 +58,7 @@ led-mapped {X} {Y} g k f l = first (readFixed k l)
     next : (n : ℕ) (o : Reading X) → mapped second (shift (tt {0}) n (mapped g o)) ≡ mapped g (mapped second (shift (tt {0}) n o))
     next n (got v m) = refl
     next n (stuck m) = refl
+
     first : (o : Reading (Unit {0})) → mapped second (andThen l o (λ _ r. mapped g (f r))) ≡ mapped g (mapped second (andThen l o (λ _ r. f r)))
     first (got u n) = next n (f (drop n l))
     first (stuck n) = refl
@@ -77,7 +80,7 @@ module _ (k : List ℕ) (n : ℕ) (s : List ℕ) (at : ℕ) (r : Step) (e : r �
         digits = subst (All hexByte) u (f .valid .0);
         here = led-mapped hexValue k (readClosed hexByte n n 10) (drop at s) ∙ ap (mapped hexValue) (f .here) ∙ ap (λ (l : List ℕ). got (hexValue l) (r .size)) u;
         long = f .long ∙ ap (λ (j : ℕ). length k + (j + 1)) w;
-        within = f .within
+        within = f .within;
       }
 
   pub hex-stuck : r .whole ≡ false → readLed k (readHex n 10) (drop at s) ≡ stuck (r .size)

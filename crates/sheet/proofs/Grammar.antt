@@ -1,14 +1,13 @@
 -- The reading of a sheet is right: it accepts the bytes of the valid sheets, and sticks at the longest beginning of one.
-use Prim.Native.Nat.{ℕ, zero, suc, _+_, _-_, _≤_, _<_, zero-le, suc-le-suc}
+use Prim.Native.Nat.{ℕ, zero, suc, _≤_, zero-le}
 use native.Mathlib.Omega.{arith}
 use native.Mathlib.Nat.{le-refl}
 use mathlib.Core.Path.{_≡_, refl, sym, _∙_, ap, subst}
 use mathlib.Core.List.{List, [], _∷_, _++_, append-assoc, append-nil}
-use mathlib.Core.Bool.{Bool, true, false}
-use lib.ListN.{length, take, drop, length-append, replicate, length-replicate}
-use Rattle.text.specs.Code.{Code, Begins, Longest, Reading, got, stuck, Any, None, Accepted, Refused, Right, Prefix, Exact, Some}
-use Rattle.text.specs.Combine.{mapped, both, andThen, led, closed, AllValid, texts, times, upTo, only, readClosed, readTimes, readUpTo, readOnly}
-use Rattle.text.specs.Hex.{hexCode, hexByte, readHex}
+use lib.ListN.{length, length-append, replicate, length-replicate}
+use Rattle.text.specs.Code.{Code, Longest, Reading, got, stuck, Any, None, Accepted, Refused, Right, Prefix, Exact, Some}
+use Rattle.text.specs.Combine.{both, andThen, closed, AllValid, texts, times, upTo, only, readClosed, readTimes, readOnly}
+use Rattle.text.specs.Hex.{hexCode, readHex}
 use Rattle.text.proofs.Sequences.{both-right, both-prefix, both-exact}
 use Rattle.text.proofs.Renamed.{Same, same-right, same-prefix}
 use Rattle.text.proofs.Words.{led-right, led-prefix}
@@ -74,7 +73,7 @@ annotation-same =
     record {
       valid = λ p h. record { keyBytes = h .0 .0 .0; keySome = h .0 .0 .1; keyMost = h .0 .0 .2; keyFree = h .0 .1; valueBytes = h .1 .0; valueMost = h .1 .2 };
       text = λ p h. regroup (p .0) (p .1);
-      back = λ a h. ((a .key, a .value), (((h .keyBytes, h .keySome, h .keyMost), h .keyFree), (h .valueBytes, zero-le, h .valueMost)), refl)
+      back = λ a h. ((a .key, a .value), (((h .keyBytes, h .keySome, h .keyMost), h .keyFree), (h .valueBytes, zero-le, h .valueMost)), refl);
     }
   where
     regroup : (k v : List ℕ) → (k ++ (eq ++ v)) ++ nl ≡ (k ++ eq) ++ (v ++ nl)
@@ -160,7 +159,7 @@ sheet-same =
     record {
       valid = λ v h. record { deedValid = h .0 .0; pinsValid = h .0 .1 .0; countValid = subst (λ (n : ℕ). n ≤ 64) (sym (h .0 .1 .1 .1 .1)) (h .0 .1 .1 .0); writesValid = h .0 .1 .1 .1 .0; annotationsValid = h .1 };
       text = λ v h. ap (λ (l : List ℕ). l ++ lines (v .1)) (front-text v (h .0));
-      back = λ f h. (((f .deed, (f .pins, (length (f .writes), f .writes))), f .annotations), ((h .deedValid, (h .pinsValid, (h .countValid, (h .writesValid, refl)))), h .annotationsValid), refl)
+      back = λ f h. (((f .deed, (f .pins, (length (f .writes), f .writes))), f .annotations), ((h .deedValid, (h .pinsValid, (h .countValid, (h .writesValid, refl)))), h .annotationsValid), refl);
     }
 
 -- the reading of the sheet is right

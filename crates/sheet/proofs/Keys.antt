@@ -1,14 +1,13 @@
 -- Keys that an annotation may have: every run of key bytes that is not too long begins one.
-use Prim.Native.Nat.{ℕ, zero, suc, _+_, _≤_, zero-le, suc-le-suc}
+use Prim.Native.Nat.{ℕ, _≤_, zero-le, suc-le-suc}
 use native.Mathlib.Omega.{arith}
 use mathlib.Core.Path.{_≡_, refl, sym, _∙_, ap, subst}
-use mathlib.Core.Logic.{_⊎_, inl, inr, ⊎-elim}
+use mathlib.Core.Logic.{⊎-elim}
 use mathlib.Core.List.{List, [], _∷_, _++_, append-nil}
-use mathlib.Core.Bool.{Bool, true, false, not, _&&_, _||_}
-use borrow.Author.Tests.{eqb-true, not-true, not-false}
+use mathlib.Core.Bool.{Bool, true, false, _&&_, _||_}
+use borrow.Author.Tests.{eqb-true, not-false}
 use lib.Dec.{eqb}
 use lib.ListN.{length, length-append}
-use Rattle.text.specs.Code.{Code}
 use Rattle.text.specs.Combine.{All, closed}
 use Rattle.text.proofs.Tests.{clash, or-split, and-split}
 use Rattle.sheet.specs.Sheet.{keyByte, deedWord, pinsWord, writesWord, atWord, eq, same, free}
@@ -34,12 +33,12 @@ taken : (u : List ℕ) → free u ≡ false → Filled u
 taken u f =
     ⊎-elim (λ (h : same u deedWord ≡ true). at deedWord h (hyphen deedWord (refl, (refl, (refl, (refl, (refl, tt))))) (omega arith) refl))
     (λ (h : (same u pinsWord || (same u writesWord || same u atWord)) ≡ true).
-      ⊎-elim (λ (h : same u pinsWord ≡ true). at pinsWord h (hyphen pinsWord (refl, (refl, (refl, (refl, (refl, tt))))) (omega arith) refl))
-      (λ (h : (same u writesWord || same u atWord) ≡ true).
-        ⊎-elim (λ (h : same u writesWord ≡ true). at writesWord h (hyphen writesWord (refl, (refl, (refl, (refl, (refl, (refl, (refl, tt))))))) (omega arith) refl))
-        (λ (h : same u atWord ≡ true). at atWord h (hyphen atWord (refl, (refl, (refl, tt))) (omega arith) refl))
-        (or-split (same u writesWord) _ h))
-      (or-split (same u pinsWord) _ h))
+    ⊎-elim (λ (h : same u pinsWord ≡ true). at pinsWord h (hyphen pinsWord (refl, (refl, (refl, (refl, (refl, tt))))) (omega arith) refl))
+    (λ (h : (same u writesWord || same u atWord) ≡ true).
+    ⊎-elim (λ (h : same u writesWord ≡ true). at writesWord h (hyphen writesWord (refl, (refl, (refl, (refl, (refl, (refl, (refl, tt))))))) (omega arith) refl))
+    (λ (h : same u atWord ≡ true). at atWord h (hyphen atWord (refl, (refl, (refl, tt))) (omega arith) refl))
+    (or-split (same u writesWord) _ h))
+    (or-split (same u pinsWord) _ h))
     (or-split (same u deedWord) _ (not-false _ f))
   where
     at : (w : List ℕ) → same u w ≡ true → Filled w → Filled u

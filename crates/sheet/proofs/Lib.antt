@@ -9,3 +9,6 @@ pub mod Fields
 pub mod Annotated
 pub mod Surveyed
 pub mod Parts
+pub mod Unique
+pub mod Annotations
+pub mod Length

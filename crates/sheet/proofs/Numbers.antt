@@ -1,15 +1,15 @@
 -- The number of writes, 0 to 64 in decimal without leading zero, is read rightly.
-use Prim.Native.Nat.{ℕ, zero, suc, _+_, _-_, _*_, _/_, _%_, _≤_, _<_, zero-le, suc-le-suc}
+use Prim.Native.Nat.{ℕ, _+_, _-_, _*_, _/_, _%_, _≤_, _<_, zero-le}
 use native.Mathlib.Omega.{arith}
-use native.Mathlib.Decide.{ℕ-discrete, decLe}
-use mathlib.Core.Path.{_≡_, refl, sym, _∙_, ap, subst}
-use mathlib.Core.Logic.{_⊎_, inl, inr, ⊎-elim}
+use native.Mathlib.Decide.{ℕ-discrete}
+use mathlib.Core.Path.{_≡_, refl, sym, ap}
+use mathlib.Core.Logic.{⊎-elim}
 use mathlib.Core.List.{List, [], _∷_, _++_}
-use mathlib.Core.Bool.{Bool, true, false, _&&_, _||_}
+use mathlib.Core.Bool.{Bool, true, false}
 use borrow.Author.Tests.{eq-eqb, ne-eqb, leb-true, le-leb, lt-ltb, le-ltb}
-use lib.Dec.{leb, ltb, eqb}
+use lib.Dec.{leb, ltb}
 use Rattle.paper.specs.Choose.{choose}
-use Rattle.text.specs.Code.{Code, Reading, got, stuck, Any, Right, Prefix, Some}
+use Rattle.text.specs.Code.{Code, stuck, Any, Right, Prefix, Some}
 use Rattle.text.specs.Combine.{bump}
 use Rattle.text.proofs.Lists.{le-or-lt, nil-cons}
 use Rattle.text.proofs.Steps.{After, step-right, stop-right, end-right}
@@ -55,6 +55,7 @@ countCode-after b hb = record { valid = λ n h. h .0; text = text; back = back }
         go : Size n → decimal n ++ nl ≡ b ∷ (after1 n ++ nl)
         go (small k t) = rw t (ap (λ (c : ℕ). c ∷ nl) (omega (arith, rw t at (h .1))))
         go (large k t) = rw t (ap (λ (c : ℕ). c ∷ (48 + n % 10) ∷ nl) (omega (arith, rw t at (h .1))))
+
     back : (n : ℕ) (l : List ℕ) → n ≤ 64 → decimal n ++ nl ≡ b ∷ l → (w : ℕ) × seconds (b - 48) .Valid w × (after1 w ++ nl ≡ l)
     back n l h e = go (size n)
       where
@@ -97,10 +98,13 @@ seconds-after d c m = record { valid = valid; text = text; back = back }
   where
     f : (48 ≤ c) × (c ≤ 57) × (1 ≤ d) × (10 * d + (c - 48) ≤ 64)
     f = more-le d c m
+
     valid : (n : ℕ) → n ≡ 10 * d + (c - 48) → seconds d .Valid n
     valid n e = (omega (arith, f), rw (le-ltb n 10 (omega (arith, f))) (omega (arith, f)))
+
     text : (n : ℕ) → n ≡ 10 * d + (c - 48) → after1 n ++ nl ≡ c ∷ nl
     text n e = rw (le-ltb n 10 (omega (arith, f))) (ap (λ (x : ℕ). x ∷ nl) (omega (arith, f)))
+
     back : (n : ℕ) (l : List ℕ) → seconds d .Valid n → after1 n ++ nl ≡ c ∷ l → (w : ℕ) × (w ≡ 10 * d + (c - 48)) × (nl ≡ l)
     back n l h e = go (size n)
       where
@@ -127,6 +131,7 @@ seconds-right d hd (c ∷ s) = go (more d c) refl
                 let q : 48 + n % 10 ≡ c = cc in
                 let j : n / 10 ≡ d = rw t at (h .1) in
                 clash (more-of d c (omega arith) (omega arith) (omega arith) (omega (arith, h .0))) m
+
     go : (t : Bool) → more d c ≡ t → Right Any (seconds d) (c ∷ s) (choose t (bump (λ v. v) (closing (10 * d + (c - 48)) s)) (closing d (c ∷ s)))
     go true m = step-right Any (seconds d) (seconds-some d) c (thirds (10 * d + (c - 48))) (λ n. n) (seconds-after d c m) s (closing (10 * d + (c - 48)) s) (thirds-right (10 * d + (c - 48)) s)
     go false m = last m (ℕ-discrete c 10)

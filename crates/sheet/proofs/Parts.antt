@@ -1,29 +1,26 @@
 -- Where the parts of a sheet lie: the deed, the annotation lines together, and each by its number.
-use Prim.Native.Nat.{ℕ, zero, suc, _+_, _-_, _≤_, _<_}
+use Prim.Native.Nat.{ℕ, zero, suc, _+_, _≤_, _<_}
 use native.Mathlib.Omega.{arith}
 use native.Mathlib.Nat.{le-of-suc-le-suc}
 use native.Mathlib.Numerals.{add-one}
 use mathlib.Core.Path.{_≡_, refl, sym, _∙_, ap, subst}
 use mathlib.Core.List.{List, [], _∷_, _++_, append-assoc}
-use mathlib.Core.Bool.{Bool, true, false}
+use mathlib.Core.Bool.{true, false}
 use borrow.Author.Tests.{lt-ltb, le-ltb}
-use lib.Dec.{ltb}
 use lib.ListN.{length, take, drop, length-append, length-drop}
 use lib.Seq.{drop-append-seam, drop-drop, take-at}
-use denote.Ref.{RefT, now}
-use Rattle.paper.specs.Choose.{choose}
+use denote.Ref.{RefT}
 use Rattle.paper.specs.Told.{done, told}
 use Rattle.paper.specs.Part.{PartOf}
 use Rattle.text.specs.Code.{Reading, got, stuck}
 use Rattle.text.specs.Combine.{mapped, AllValid, texts}
 use Rattle.text.proofs.Tests.{clash}
 use Rattle.text.proofs.Back.{back-any}
-use Rattle.sheet.specs.Sheet.{deedWord, eq, nl, deedLine, pinsLine, writesLine, atLine, Annotation, line, annotationLine, Fields, ValidSheet, front, lines, render}
+use Rattle.sheet.specs.Sheet.{deedWord, eq, nl, pinsLine, writesLine, atLine, Annotation, line, annotationLine, Fields, ValidSheet, front, lines, render}
 use Rattle.sheet.specs.Read.{readAnnotation, Front, toFields, readSheet}
 use Rattle.sheet.specs.Given.{isGot, toldRead, noFields, fieldsRead, accepted, fieldsIn, padded, deedFrom, tailFrom, annotationFrom, lineAt}
 use Rattle.sheet.specs.Steps.{stepOf, outlineOf}
 use Rattle.sheet.specs.declared.Outline.{Outline}
-use Rattle.sheet.specs.declared.Step.{Step}
 use Rattle.sheet.proofs.Grammar.{accepted-fields, annotation-right, annotation-prefix}
 
 -- ---- what one pass finds, in the operations' own words
@@ -97,12 +94,13 @@ module _ (s : List ℕ) (h : accepted s ≡ true) where
   deed-split : (t : List ℕ) × (s ≡ (deedWord ++ eq) ++ (fieldsIn s .deed ++ t))
   deed-split =
       let f = fieldsIn s in
-      let rest = pinsLine .text (f .pins) ++ (writesLine .text (length (f .writes)) ++ texts atLine (f .writes)) in
-      (nl ++ (rest ++ lines (f .annotations)),
-      accepted-render s h .1
-      ∙ append-assoc ((deedWord ++ eq) ++ (f .deed ++ nl)) rest (lines (f .annotations))
-      ∙ append-assoc (deedWord ++ eq) (f .deed ++ nl) (rest ++ lines (f .annotations))
-      ∙ ap (λ (l : List ℕ). (deedWord ++ eq) ++ l) (append-assoc (f .deed) nl (rest ++ lines (f .annotations))))
+      let rest = pinsLine .text (f .pins) ++ (writesLine .text (length (f .writes)) ++ texts atLine (f .writes)) in (
+        nl ++ (rest ++ lines (f .annotations)),
+        accepted-render s h .1
+            ∙ append-assoc ((deedWord ++ eq) ++ (f .deed ++ nl)) rest (lines (f .annotations))
+            ∙ append-assoc (deedWord ++ eq) (f .deed ++ nl) (rest ++ lines (f .annotations))
+            ∙ ap (λ (l : List ℕ). (deedWord ++ eq) ++ l) (append-assoc (f .deed) nl (rest ++ lines (f .annotations))),
+      )
 
   pub deed-within : 5 + length (fieldsIn s .deed) ≤ length s
   deed-within =
@@ -135,13 +133,15 @@ at-line (a ∷ l) (suc i) h k =
     let r = at-line l i (h .1) (le-of-suc-le-suc k) in
     let t = annotationLine .text a in
     record {
-      value = r .value; valid = r .valid; rest = r .rest;
+      value = r .value;
+      valid = r .valid;
+      rest = r .rest;
       here =
           ap (λ (j : ℕ). drop j (t ++ lines l)) (length-append t (lines (take i l)))
           ∙ sym (drop-drop (length (lines (take i l))) (length t) (t ++ lines l))
           ∙ ap (drop (length (lines (take i l)))) (drop-append-seam t (lines l)) ∙ r .here;
       next = omega (arith, length-append t (lines (take (suc i) l)), length-append t (lines (take i l)), r .next);
-      named = r .named
+      named = r .named;
     }
 
 -- line i of an accepted sheet: it is read where the lines before it end
@@ -162,14 +162,14 @@ line-in s i h k =
     let size : length t ≡ length (line (r .value)) + 1 = length-append (line (r .value)) nl in
     let here : drop a s ≡ t ++ r .rest = sym (drop-drop (length (lines (take i l))) (tailFrom s) s) ∙ ap (drop (length (lines (take i l)))) (tail-rest s h) ∙ r .here in
     let got-it : readAnnotation (drop a s) ≡ got (r .value) (length t) =
-        ap readAnnotation here ∙ back-any annotationLine annotation-prefix (r .value) (r .rest) (r .valid) (readAnnotation (t ++ r .rest)) (annotation-right (t ++ r .rest)) in
+    ap readAnnotation here ∙ back-any annotationLine annotation-prefix (r .value) (r .rest) (r .valid) (readAnnotation (t ++ r .rest)) (annotation-right (t ++ r .rest)) in
     record {
       value = r .value;
       read = ap stepOf got-it ∙ ap (λ (n : ℕ). stepOf (got (r .value) n)) size;
       next = omega (arith, size, r .next, ap (λ (j : ℕ). length (lines (take j l))) (add-one i));
       named = r .named;
       within = omega (arith, size, length-drop a s, ap length here, length-append t (r .rest));
-      holds = ap (take (length (line (r .value)))) (here ∙ append-assoc (line (r .value)) nl (r .rest)) ∙ take-at (line (r .value)) (nl ++ r .rest) (length (line (r .value))) refl
+      holds = ap (take (length (line (r .value)))) (here ∙ append-assoc (line (r .value)) nl (r .rest)) ∙ take-at (line (r .value)) (nl ++ r .rest) (length (line (r .value))) refl;
     }
 
 -- ---- annotation n

@@ -1,18 +1,18 @@
 -- How far a reading goes: from the steps that the functions answer to what is read, and back.
-use Prim.Native.Nat.{ℕ, zero, suc, _+_, _-_, _≤_, _<_, zero-le}
+use Prim.Native.Nat.{ℕ, suc, _+_, _-_, _≤_, _<_}
 use native.Mathlib.Omega.{arith}
 use native.Mathlib.Nat.{le-of-suc-le-suc}
 use native.Mathlib.Numerals.{add-one}
 use mathlib.Core.Path.{_≡_, refl, sym, _∙_, ap, subst}
-use mathlib.Core.List.{List, [], _∷_, _++_}
+use mathlib.Core.List.{List, [], _∷_}
 use mathlib.Core.Bool.{Bool, true, false, _&&_}
 use borrow.Author.Tests.{eq-eqb, ne-eqb, le-leb, lt-leb, lt-ltb, le-ltb}
-use lib.Dec.{eqb, leb, ltb, eqb·suc-suc, eqb·zero-suc}
+use lib.Dec.{eqb, eqb·suc-suc, eqb·zero-suc}
 use lib.ListN.{length, take, drop, getD, length-drop}
 use lib.Seq.{getD-drop, length-take-le, drop-drop}
 use Rattle.paper.specs.Choose.{choose}
 use Rattle.text.specs.Code.{Code, Reading, got, stuck, Right}
-use Rattle.text.specs.Combine.{mapped, shift, andThen, common, readFixed, span, readClosedAt, readClosed, second, readLed}
+use Rattle.text.specs.Combine.{mapped, shift, common, span, readClosedAt, readClosed, second, readLed}
 use Rattle.text.proofs.Back.{got-within}
 use Rattle.text.proofs.Tests.{clash}
 use Rattle.sheet.specs.Sheet.{same}

@@ -1,21 +1,20 @@
 -- One pass over a sheet: what is known after each of the fixed lines, and what a stuck line says of the whole.
-use Prim.Native.Nat.{ℕ, zero, suc, _+_, _-_, _≤_, _<_}
+use Prim.Native.Nat.{ℕ, _+_, _-_, _≤_}
 use native.Mathlib.Omega.{arith}
-use mathlib.Core.Path.{_≡_, refl, sym, _∙_, ap, subst}
-use mathlib.Core.List.{List, [], _∷_, _++_}
-use mathlib.Core.Bool.{Bool, true, false}
+use mathlib.Core.Path.{_≡_, sym, _∙_, ap, subst}
+use mathlib.Core.List.{List, _++_}
+use mathlib.Core.Bool.{true}
 use lib.ListN.{length, take, drop}
 use lib.Seq.{drop-drop}
-use Rattle.text.specs.Code.{Code, Reading, got, stuck, Any, Accepted, Right}
-use Rattle.text.specs.Combine.{All, andThen, shift, times, readTimes}
-use Rattle.text.specs.Hex.{hexByte, hexValue}
-use Rattle.sheet.specs.Sheet.{deedByte, deedWord, pinsWord, eq, atLine, Annotation, front}
+use Rattle.text.specs.Code.{Reading, got, stuck, Any, Accepted, Right}
+use Rattle.text.specs.Combine.{andThen, shift, readTimes}
+use Rattle.text.specs.Hex.{hexValue}
+use Rattle.sheet.specs.Sheet.{deedByte, deedWord, pinsWord, eq, Annotation, front}
 use Rattle.sheet.specs.Read.{readDeed, readPins, readCount, readAt, readAnnotations, Front, readFront, readLines, toFields}
 use Rattle.sheet.specs.Given.{padded}
 use Rattle.sheet.specs.Steps.{outlineOf}
-use Rattle.sheet.specs.declared.Outline.{Outline}
 use Rattle.sheet.proofs.Fields.{Field, HexField}
-use Rattle.sheet.proofs.Grammar.{count-right, writes-right, frontCode, front-right, front-text}
+use Rattle.sheet.proofs.Grammar.{count-right, frontCode, front-right, front-text}
 
 -- ---- what is known after the deed, the pins, the number of writes, and the writes; each line with its number of bytes
 abbrev pub DeedAt : List ℕ → ℕ → Type 0
@@ -82,7 +81,7 @@ module _ (s : List ℕ) (n1 : ℕ) where
 
         -- all lines are read
         pub outlined : (notes : List Annotation) (n5 j : ℕ) → readAnnotations (drop (n1 + n2 + n3 + n4) s) ≡ got notes n5 → j ≡ length notes → (pins : ℕ) → pins ≡ hexValue (take 2 (drop (n1 + 5) s))
-          → record { whole = true; place = 0; deed = n1 - 6; pins = pins; writes = out; «write_count» = k; tail = n1 + n2 + n3 + n4; annotations = j } ≡ outlineOf (readLines s)
+            → record { whole = true; place = 0; deed = n1 - 6; pins = pins; writes = out; «write_count» = k; tail = n1 + n2 + n3 + n4; annotations = j } ≡ outlineOf (readLines s)
         unfolding value
         outlined notes n5 j h a pins p =
             let d : n1 - 6 ≡ length (w .before .before .deed .bytes) = omega (arith, w .before .before .deed .long) in

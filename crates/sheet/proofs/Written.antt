@@ -1,5 +1,5 @@
 -- Write addresses in an array that is filled from its start.
-use Prim.Native.Nat.{ℕ, suc, _+_, _-_, _≤_, _<_}
+use Prim.Native.Nat.{ℕ, suc, _+_, _-_, _<_}
 use native.Mathlib.Omega.{arith}
 use mathlib.Core.Path.{_≡_, refl, sym, _∙_, ap}
 use mathlib.Core.List.{List, [], _∷_, _++_, append-assoc, append-nil}
@@ -38,7 +38,7 @@ filled-more out i p o r f h v n r' q w e =
       holds =
           ap (λ (x : List ℕ). set x i v) (f .holds)
           ∙ ap (λ (j : ℕ). set (padded 64 (f .passed .values)) j v) (sym (f .passed .many))
-          ∙ padded-more (f .passed .values) v (omega (arith, f .passed .many))
+          ∙ padded-more (f .passed .values) v (omega (arith, f .passed .many));
     }
 
 -- where all are read, and where one sticks

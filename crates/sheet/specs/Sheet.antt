@@ -7,7 +7,7 @@ use lib.ListN.{length}
 use lib.Dec.{leb, ltb, eqb}
 use Rattle.paper.specs.Choose.{choose}
 use Rattle.text.specs.Code.{Code}
-use Rattle.text.specs.Combine.{led, All, closed, AllValid, texts, times, upTo}
+use Rattle.text.specs.Combine.{led, All, closed, AllValid, texts, upTo}
 use Rattle.text.specs.Hex.{between, hexCode}
 
 -- ---- bytes: A-Z, 0-9, hyphen; a-z, hyphen; any byte but 10

@@ -1,6 +1,6 @@
 -- What the functions behind the operations answer of a reading.
-use Prim.Native.Nat.{ℕ, zero, suc, _+_, _-_}
-use mathlib.Core.List.{List, [], _++_}
+use Prim.Native.Nat.{ℕ}
+use mathlib.Core.List.{List, _++_}
 use mathlib.Core.Bool.{Bool, true, false, not, _||_}
 use lib.ListN.{length, replicate}
 use Rattle.text.specs.Code.{Reading, got, stuck}

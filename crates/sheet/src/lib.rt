@@ -16,8 +16,11 @@ ghost use Rattle.sheet.specs.Steps.{classOf, stepOf, countedOf, writesOf
 
 // The fixed keys, as they stand in a sheet and in a report.
 pub const DEED_KEY: [u8; 5] = *b"deed=";
+
 pub const PINS_KEY: [u8; 5] = *b"pins=";
+
 pub const WRITES_KEY: [u8; 7] = *b"writes=";
+
 pub const AT_KEY: [u8; 3] = *b"at=";
 
 // The classes of bytes that fields are made of.
@@ -148,15 +151,27 @@ fn closed_run(s: &[u8], at: usize, class: Class, lo: usize, hi: usize, end: u8) 
 {
     let n = run(s, at, class, hi);
     if n < lo {
-        return Step { whole: false, size: n };
+        return Step {
+            whole: false,
+            size: n,
+        };
     }
     if s.len() - at <= n {
-        return Step { whole: false, size: n };
+        return Step {
+            whole: false,
+            size: n,
+        };
     }
     if s[at + n] == end {
-        return Step { whole: true, size: n + 1 };
+        return Step {
+            whole: true,
+            size: n + 1,
+        };
     }
-    Step { whole: false, size: n }
+    Step {
+        whole: false,
+        size: n,
+    }
 }
 
 // A line from `at` on: the key, then bytes of a class, at least `lo` and at most `hi`, and the line end.
@@ -167,10 +182,16 @@ fn keyed_line(s: &[u8], at: usize, key: &[u8], class: Class, lo: usize, hi: usiz
 {
     let n = common_bytes(s, at, key);
     if n < key.len() {
-        return Step { whole: false, size: n };
+        return Step {
+            whole: false,
+            size: n,
+        };
     }
     let field = closed_run(s, at + n, class, lo, hi, 10);
-    Step { whole: field.whole, size: n + field.size }
+    Step {
+        whole: field.whole,
+        size: n + field.size,
+    }
 }
 
 // Whether the `n` bytes from `at` on are the key.
@@ -207,10 +228,16 @@ fn annotation_line(s: &[u8], at: usize) -> Step
         return key;
     }
     if !is_free(s, at, key.size) {
-        return Step { whole: false, size: key.size - 1 };
+        return Step {
+            whole: false,
+            size: key.size - 1,
+        };
     }
     let value = closed_run(s, at + key.size, Class::Value, 0, 120, 10);
-    Step { whole: value.whole, size: key.size + value.size }
+    Step {
+        whole: value.whole,
+        size: key.size + value.size,
+    }
 }
 
 // How many annotation lines stand from `from` to the end, at most 200.
@@ -223,16 +250,28 @@ fn annotation_lines(s: &[u8], from: usize) -> Counted
     let mut k: usize = 0;
     while at < s.len() {
         if 200 <= k {
-            return Counted { whole: false, size: at - from, count: 0 };
+            return Counted {
+                whole: false,
+                size: at - from,
+                count: 0,
+            };
         }
         let line = annotation_line(s, at);
         if !line.whole {
-            return Counted { whole: false, size: at - from + line.size, count: 0 };
+            return Counted {
+                whole: false,
+                size: at - from + line.size,
+                count: 0,
+            };
         }
         at += line.size;
         k += 1;
     }
-    Counted { whole: true, size: at - from, count: k }
+    Counted {
+        whole: true,
+        size: at - from,
+        count: k,
+    }
 }
 
 // The number of the hex digit b.
@@ -268,12 +307,24 @@ fn closing(s: &[u8], at: usize, v: u8) -> Counted
     ensures { λ r. ⌜ at + r .size ≤ length (now (s .entry)) ⌝ }
 {
     if s.len() <= at {
-        return Counted { whole: false, size: 0, count: 0 };
+        return Counted {
+            whole: false,
+            size: 0,
+            count: 0,
+        };
     }
     if s[at] == 10 {
-        return Counted { whole: true, size: 1, count: v as usize };
+        return Counted {
+            whole: true,
+            size: 1,
+            count: v as usize,
+        };
     }
-    Counted { whole: false, size: 0, count: 0 }
+    Counted {
+        whole: false,
+        size: 0,
+        count: 0,
+    }
 }
 
 // Whether c is a second digit after d: d is not 0, and the number is at most 64.
@@ -294,12 +345,20 @@ fn second_digit(s: &[u8], at: usize, d: u8) -> Counted
     ensures { λ r. ⌜ at + r .size ≤ length (now (s .entry)) ⌝ }
 {
     if s.len() <= at {
-        return Counted { whole: false, size: 0, count: 0 };
+        return Counted {
+            whole: false,
+            size: 0,
+            count: 0,
+        };
     }
     let c = s[at];
     if is_more(d, c) {
         let end = closing(s, at + 1, 10 * d + (c - 48));
-        return Counted { whole: end.whole, size: end.size + 1, count: end.count };
+        return Counted {
+            whole: end.whole,
+            size: end.size + 1,
+            count: end.count,
+        };
     }
     closing(s, at, d)
 }
@@ -311,14 +370,26 @@ fn write_number(s: &[u8], at: usize) -> Counted
     ensures { λ r. ⌜ at + r .size ≤ length (now (s .entry)) ⌝ }
 {
     if s.len() <= at {
-        return Counted { whole: false, size: 0, count: 0 };
+        return Counted {
+            whole: false,
+            size: 0,
+            count: 0,
+        };
     }
     let b = s[at];
     if within(b'0', b'9', b) {
         let next = second_digit(s, at + 1, b - 48);
-        return Counted { whole: next.whole, size: next.size + 1, count: next.count };
+        return Counted {
+            whole: next.whole,
+            size: next.size + 1,
+            count: next.count,
+        };
     }
-    Counted { whole: false, size: 0, count: 0 }
+    Counted {
+        whole: false,
+        size: 0,
+        count: 0,
+    }
 }
 
 // The line `writes=` from `at` on.
@@ -329,10 +400,18 @@ fn count_line(s: &[u8], at: usize) -> Counted
 {
     let n = common_bytes(s, at, &WRITES_KEY);
     if n < 7 {
-        return Counted { whole: false, size: n, count: 0 };
+        return Counted {
+            whole: false,
+            size: n,
+            count: 0,
+        };
     }
     let number = write_number(s, at + n);
-    Counted { whole: number.whole, size: n + number.size, count: number.count }
+    Counted {
+        whole: number.whole,
+        size: n + number.size,
+        count: number.count,
+    }
 }
 
 // `count` lines `at=` from `from` on, with their addresses.
@@ -347,13 +426,21 @@ fn write_lines(s: &[u8], from: usize, count: usize) -> Writes
     while i < count {
         let line = keyed_line(s, at, &AT_KEY, Class::Hex, 4, 4);
         if !line.whole {
-            return Writes { whole: false, size: at - from + line.size, writes: [0u16; 64] };
+            return Writes {
+                whole: false,
+                size: at - from + line.size,
+                writes: [0u16; 64],
+            };
         }
         out[i] = hex_value(s, at + 3, 4);
         at += line.size;
         i += 1;
     }
-    Writes { whole: true, size: at - from, writes: out }
+    Writes {
+        whole: true,
+        size: at - from,
+        writes: out,
+    }
 }
 
 // The outline of a sheet that is broken at the place.

@@ -1,11 +1,11 @@
 -- What a right reading says of its size, and that it reads back every valid text.
-use Prim.Native.Nat.{ℕ, zero, suc, _+_, _-_, _≤_, _<_}
+use Prim.Native.Nat.{ℕ, _≤_}
 use native.Mathlib.Omega.{arith}
-use mathlib.Core.Path.{_≡_, refl, sym, _∙_, ap, subst}
+use mathlib.Core.Path.{_≡_, refl, sym, _∙_, ap}
 use mathlib.Core.List.{List, [], _∷_, _++_, append-nil}
 use lib.ListN.{length, take, drop, length-append}
 use lib.Seq.{take-append-seam}
-use Rattle.text.specs.Code.{Code, Reading, got, stuck, Any, None, Accepted, Refused, Right, Prefix, Exact, Some}
+use Rattle.text.specs.Code.{Code, Reading, got, stuck, Any, None, Accepted, Right, Prefix, Exact, Some}
 
 module _ {X : Type 0} (R : List ℕ → Type 0) (C : Code X) (s : List ℕ) where
   -- the text that is read lies within the bytes, at their start

@@ -30,7 +30,7 @@ one-byte e (c ∷ x) t h q =
     cc
 
 module _ (p : ℕ → Bool) (lo hi e : ℕ) (off : p e ≡ false) (ok : List ℕ → Bool)
-  (fill : (u : List ℕ) → All p u → length u ≤ hi → (x : List ℕ) × closed p lo hi e .Valid (u ++ x) × (ok (u ++ x) ≡ true)) where
+    (fill : (u : List ℕ) → All p u → length u ≤ hi → (x : List ℕ) × closed p lo hi e .Valid (u ++ x) × (ok (u ++ x) ≡ true)) where
   filled : (u : List ℕ) → All p u → length u ≤ hi → Begins (only ok (closed p lo hi e)) u
   filled u h k = let f = fill u h k in (u ++ f .0, f .0 ++ (e ∷ []), (f .1, f .2), sym (append-assoc u (f .0) (e ∷ [])))
 
@@ -38,39 +38,44 @@ module _ (p : ℕ → Bool) (lo hi e : ℕ) (off : p e ≡ false) (ok : List ℕ
   stuck-only s n h =
       record {
         longest = record { within = h .longest .within; begun = begun (h .longest .begun); most = λ m hm b. h .longest .most m hm (b .0, b .1, b .2 .0, b .3) };
-        never = λ v r hr hv q. h .never v r hr (hv .0) q
+        never = λ v r hr hv q. h .never v r hr (hv .0) q;
       }
     where
       whole : (v x t : List ℕ) → take n s ≡ v ++ x → length v < length (take n s) → e ∷ [] ≡ x ++ t → s ≡ (v ++ (e ∷ [])) ++ drop n s
       whole v x t a l q =
           let o : x ≡ e ∷ [] = one-byte e x t (omega (arith, ap length a, length-append v x)) q in
           sym (take-append-drop n s) ∙ ap (λ (y : List ℕ). y ++ drop n s) (a ∙ ap (λ (y : List ℕ). v ++ y) o)
+
       begun : Begins (closed p lo hi e) (take n s) → Begins (only ok (closed p lo hi e)) (take n s)
       begun b =
           ⊎-elim
           (λ (l : length (take n s) ≤ length (b .0)).
-            let r = split-le (take n s) (b .1) (b .0) (e ∷ []) (b .3) l in
-            filled (take n s) (all-left p (take n s) (r .0) (subst (All p) (r .1) (b .2 .0))) (omega (arith, b .2 .2)))
+          let r = split-le (take n s) (b .1) (b .0) (e ∷ []) (b .3) l in
+          filled (take n s) (all-left p (take n s) (r .0) (subst (All p) (r .1) (b .2 .0))) (omega (arith, b .2 .2)))
           (λ (l : length (b .0) < length (take n s)).
-            let r = split-le (b .0) (e ∷ []) (take n s) (b .1) (sym (b .3)) (omega arith) in
-            absurd (h .never (b .0) (drop n s) tt (b .2) (whole (b .0) (r .0) (b .1) (r .1) l (r .2))))
+          let r = split-le (b .0) (e ∷ []) (take n s) (b .1) (sym (b .3)) (omega arith) in
+          absurd (h .never (b .0) (drop n s) tt (b .2) (whole (b .0) (r .0) (b .1) (r .1) l (r .2))))
           (le-or-lt (length (take n s)) (length (b .0)))
 
   got-not : (s u : List ℕ) (n : ℕ) → ok u ≡ false → Accepted Any (closed p lo hi e) s u n → Refused Any (only ok (closed p lo hi e)) s (n - 1)
   got-not s u n bad g =
       record {
         longest = record { within = omega (arith, ap length (g .whole), length-append (u ++ (e ∷ [])) (drop n s), long); begun = rw first (filled u (g .valid .0) (g .valid .2)); most = most };
-        never = λ v r hr hv q. other v (drop n s) r hv (sym (g .whole) ∙ q)
+        never = λ v r hr hv q. other v (drop n s) r hv (sym (g .whole) ∙ q);
       }
     where
       long : n ≡ suc (length u)
       long = g .size ∙ length-append u (e ∷ []) ∙ omega arith
+
       k≡ : n - 1 ≡ length u
       k≡ = omega (arith, long)
+
       first : take (n - 1) s ≡ u
       first = rw k≡ (ap (take (length u)) (g .whole ∙ append-assoc u (e ∷ []) (drop n s)) ∙ take-append-seam u ((e ∷ []) ++ drop n s))
+
       other : (v x r : List ℕ) → only ok (closed p lo hi e) .Valid v → (u ++ (e ∷ [])) ++ x ≡ (v ++ (e ∷ [])) ++ r → ⊥
       other v x r hv q = clash (hv .1) (sym (ap ok (closed-prefix p e off lo hi u v x r (g .valid) (hv .0) q)) ∙ bad)
+
       most : (m : ℕ) → m ≤ length s → Begins (only ok (closed p lo hi e)) (take m s) → m ≤ n - 1
       most m hm b = ⊎-elim (λ (l : m ≤ n - 1). l) (λ (l : n - 1 < m). absurd (past l)) (le-or-lt m (n - 1))
         where

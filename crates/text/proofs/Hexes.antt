@@ -23,20 +23,20 @@ pub hex-byte : (b : ℕ) → hexByte b ≡ true → (unhex b < 16) × (hexDigit 
 hex-byte b h =
     ⊎-elim
     (λ (k : between 48 57 b ≡ true).
-      let l = between-le 48 57 b k in
-      rw (lt-ltb b 58 (omega arith)) (omega arith, rw (lt-ltb (b - 48) 10 (omega arith)) (omega arith)))
+    let l = between-le 48 57 b k in
+    rw (lt-ltb b 58 (omega arith)) (omega arith, rw (lt-ltb (b - 48) 10 (omega arith)) (omega arith)))
     (λ (k : between 65 70 b ≡ true).
-      let l = between-le 65 70 b k in
-      rw (le-ltb b 58 (omega arith)) (omega arith, rw (le-ltb (b - 55) 10 (omega arith)) (omega arith)))
+    let l = between-le 65 70 b k in
+    rw (le-ltb b 58 (omega arith)) (omega arith, rw (le-ltb (b - 55) 10 (omega arith)) (omega arith)))
     (or-split (between 48 57 b) (between 65 70 b) h)
 
 pub hex-digit : (n : ℕ) → n < 16 → (hexByte (hexDigit n) ≡ true) × (unhex (hexDigit n) ≡ n)
 hex-digit n h =
     ⊎-elim
     (λ (k : 10 ≤ n).
-      rw (le-ltb n 10 k) (or-right (between 48 57 (55 + n)) _ (between-of 65 70 (55 + n) (omega arith) (omega arith)), rw (le-ltb (55 + n) 58 (omega arith)) (omega arith)))
+    rw (le-ltb n 10 k) (or-right (between 48 57 (55 + n)) _ (between-of 65 70 (55 + n) (omega arith) (omega arith)), rw (le-ltb (55 + n) 58 (omega arith)) (omega arith)))
     (λ (k : n < 10).
-      rw (lt-ltb n 10 k) (or-left _ (between 65 70 (48 + n)) (between-of 48 57 (48 + n) (omega arith) (omega arith)), rw (lt-ltb (48 + n) 58 (omega arith)) (omega arith)))
+    rw (lt-ltb n 10 k) (or-left _ (between 65 70 (48 + n)) (between-of 48 57 (48 + n) (omega arith) (omega arith)), rw (lt-ltb (48 + n) 58 (omega arith)) (omega arith)))
     (le-or-lt 10 n)
 
 -- no digit lies below 48
@@ -114,7 +114,7 @@ hex-same n e =
     record {
       valid = λ u h. subst (λ (k : ℕ). hexValue u < 16 ^ k) (long u h) (value-lt u (h .0));
       text = λ u h. ap (λ (x : List ℕ). x ++ (e ∷ [])) (subst (λ (k : ℕ). hex k (hexValue u) ≡ u) (long u h) (value-text u (h .0)));
-      back = λ v h. (hex n v, (hex-all n v h, le-of-eq (sym (hex-length n v)), le-of-eq (hex-length n v)), hex-value n v h)
+      back = λ v h. (hex n v, (hex-all n v h, le-of-eq (sym (hex-length n v)), le-of-eq (hex-length n v)), hex-value n v h);
     }
   where
     long : (u : List ℕ) → closed hexByte n n e .Valid u → length u ≡ n

@@ -12,3 +12,4 @@ pub mod Hexes
 pub mod Back
 pub mod Scans
 pub mod Passed
+pub mod Lengths

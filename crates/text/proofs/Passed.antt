@@ -1,9 +1,9 @@
 -- Steps of loops over the texts of one code: what is read of the whole is what is passed and what is read of the rest.
 use Prim.Native.Nat.{ℕ, zero, suc, _+_, _-_, _≤_, _<_}
 use native.Mathlib.Omega.{arith}
-use mathlib.Core.Path.{_≡_, refl, sym, _∙_, ap, subst}
+use mathlib.Core.Path.{_≡_, refl, sym, _∙_, ap}
 use mathlib.Core.List.{List, [], _∷_, _++_, append-assoc}
-use lib.ListN.{length, drop, getD, length-append, drop-of-length-le}
+use lib.ListN.{length, drop, length-append, drop-of-length-le}
 use lib.Seq.{drop-cons, drop-drop}
 use Rattle.text.specs.Code.{Reading, got, stuck}
 use Rattle.text.specs.Combine.{mapped, shift, andThen, pushed, readTimes, readUpTo}
@@ -37,7 +37,7 @@ module _ {X : Type 0} where
       record {
         values = h .values ++ (v ∷ []);
         many = length-append (h .values) (v ∷ []) ∙ ap (λ (j : ℕ). j + 1) (h .many);
-        whole = h .whole ∙ ap (ahead (h .values) p) e ∙ ahead-more (h .values) p (v ∷ []) n r' ∙ ap (λ (j : ℕ). ahead (h .values ++ (v ∷ [])) j r') (sym w)
+        whole = h .whole ∙ ap (ahead (h .values) p) e ∙ ahead-more (h .values) p (v ∷ []) n r' ∙ ap (λ (j : ℕ). ahead (h .values ++ (v ∷ [])) j r') (sym w);
       }
 
   module _ (f : List ℕ → Reading X) (s : List ℕ) (at m : ℕ) where

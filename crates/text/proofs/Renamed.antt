@@ -30,12 +30,12 @@ module _ {X Y : Type 0} (C : Code X) (D : Code Y) (f : X → Y) (same : Same C D
         valid = same .valid v (g .valid);
         size = rw (same .text v (g .valid)) (g .size);
         whole = rw (same .text v (g .valid)) (g .whole);
-        rest = g .rest
+        rest = g .rest;
       }
   same-right R s (stuck n) h =
       record {
         longest = record { within = h .longest .within; begun = begins-to (take n s) (h .longest .begun); most = λ m hm b. h .longest .most m hm (begins-of (take m s) b) };
-        never = λ w r hr hw e. let k = back-text w hw in h .never (k .0) r hr (k .1) (e ∙ ap (λ (l : List ℕ). l ++ r) (sym (k .2)))
+        never = λ w r hr hw e. let k = back-text w hw in h .never (k .0) r hr (k .1) (e ∙ ap (λ (l : List ℕ). l ++ r) (sym (k .2)));
       }
 
   pub same-prefix : Prefix C → Prefix D
@@ -43,5 +43,5 @@ module _ {X Y : Type 0} (C : Code X) (D : Code Y) (f : X → Y) (same : Same C D
       let b = same .back w h in
       let b' = same .back w' h' in
       let k : C .text (b .0) ++ x ≡ C .text (b' .0) ++ x' =
-          rw (← same .text (b .0) (b .1), ← same .text (b' .0) (b' .1), b .2, b' .2) e in
+      rw (← same .text (b .0) (b .1), ← same .text (b' .0) (b' .1), b .2, b' .2) e in
       sym (b .2) ∙ ap f (pre (b .0) (b' .0) x x' (b .1) (b' .1) k) ∙ b' .2

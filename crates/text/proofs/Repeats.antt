@@ -56,7 +56,7 @@ module _ {X : Type 0} (C : Code X) (f : List ℕ → Reading X) (reads : (s : Li
     upTo-none b s =
         record {
           longest = record { within = zero-le; begun = ([], [], (tt, zero-le), refl); most = most };
-          never = λ l r hr hl e. none l b s hl (all-of l r (b ∷ s) hr e)
+          never = λ l r hr hl e. none l b s hl (all-of l r (b ∷ s) hr e);
         }
       where
         most : (m : ℕ) → m ≤ suc (length s) → Begins (upTo 0 C) (take m (b ∷ s)) → m ≤ 0
@@ -69,11 +69,12 @@ module _ {X : Type 0} (C : Code X) (f : List ℕ → Reading X) (reads : (s : Li
     upTo-more n b s (stuck k) g =
         record {
           longest = record { within = g .longest .within; begun = begun; most = most };
-          never = λ l r hr hl e. let q = pop n l b s hl (all-of l r (b ∷ s) hr e) in g .never (q .0) [] refl (q .1) (q .2 ∙ sym (append-nil _))
+          never = λ l r hr hl e. let q = pop n l b s hl (all-of l r (b ∷ s) hr e) in g .never (q .0) [] refl (q .1) (q .2 ∙ sym (append-nil _));
         }
       where
         begun : Begins (upTo (suc n) C) (take k (b ∷ s))
         begun = let q = g .longest .begun in (pushed (q .0), q .1, ((q .2 .0, q .2 .1 .0), suc-le-suc (q .2 .1 .1)), q .3)
+
         most : (m : ℕ) → m ≤ suc (length s) → Begins (upTo (suc n) C) (take m (b ∷ s)) → m ≤ k
         most zero hm q = zero-le
         most (suc m) hm q = let w = pop n (q .0) b (take m s ++ q .1) (q .2) (sym (q .3)) in g .longest .most (suc m) hm (w .0, q .1, w .1, w .2)

@@ -56,12 +56,14 @@ module _ (p : ℕ → Bool) (e : ℕ) (off-e : p e ≡ false) where
     where
       no-run : (c : ℕ) (u l : List ℕ) → closed p lo hi e .Valid (c ∷ u) → (c ∷ u) ++ (e ∷ []) ≡ b ∷ l → ⊥
       no-run c u l k q = off (omega arith) (let r : c ≡ b = cc in rw r at (k .0 .0))
+
       stop : ((lo ≤ 0) → b ≡ e → ⊥) → Refused Any (closed p lo hi e) (b ∷ s) 0
       stop h = stop-right Any (closed p lo hi e) (closed-some lo hi) (replicate lo z) (all-replicate p z pz lo, rw length-replicate (le-refl lo), rw length-replicate lh) b none s
         where
           none : (v l : List ℕ) → closed p lo hi e .Valid v → v ++ (e ∷ []) ≡ b ∷ l → ⊥
           none [] l k q = h (k .1) (cc)
           none (c ∷ u) l k q = no-run c u l k q
+
       go : Dec (lo ≤ 0) → Dec (b ≡ e) → Right Any (closed p lo hi e) (b ∷ s) (choose (leb lo 0 && (true && eqb b e)) (got [] 1) (stuck 0))
       go (yes h) (yes k) = rw (le-leb lo 0 h, eq-eqb b e k) (record { valid = (tt, h, zero-le); size = refl; whole = ap (λ (c : ℕ). c ∷ s) k; rest = tt })
       go (yes h) (no k) = rw (le-leb lo 0 h, ne-eqb b e k) (stop (λ _ q. k q))

@@ -21,16 +21,18 @@ module _ {X Y : Type 0} (A : Code X) (B : X → Code Y) (R : List ℕ → Type 0
           let b = h .longest .begun in
           let w = fill (b .0) (b .2) in
           ((b .0, w .0), b .1 ++ B (b .0) .text (w .0), (b .2, w .1), rw (← append-assoc, b .3))
+
       most : (m : ℕ) → m ≤ length s → Begins (both A B) (take m s) → m ≤ n
       most m hm b =
           ⊎-elim
           (λ (le : m ≤ length (A .text (b .0 .0))).
-            let r = split-le (take m s) (b .1) (A .text (b .0 .0)) (B (b .0 .0) .text (b .0 .1)) (b .3) (rw (length-take-le m s hm) le) in
-            h .longest .most m hm (b .0 .0, r .0, b .2 .0, sym (r .1)))
+          let r = split-le (take m s) (b .1) (A .text (b .0 .0)) (B (b .0 .0) .text (b .0 .1)) (b .3) (rw (length-take-le m s hm) le) in
+          h .longest .most m hm (b .0 .0, r .0, b .2 .0, sym (r .1)))
           (λ (lt : length (A .text (b .0 .0)) < m).
-            let r = split-le (A .text (b .0 .0)) (B (b .0 .0) .text (b .0 .1)) (take m s) (b .1) (sym (b .3)) (rw (length-take-le m s hm) (omega arith)) in
-            absurd (h .never (b .0 .0) (r .0 ++ drop m s) tt (b .2 .0) (rw (← append-assoc, ← r .1, take-append-drop))))
+          let r = split-le (A .text (b .0 .0)) (B (b .0 .0) .text (b .0 .1)) (take m s) (b .1) (sym (b .3)) (rw (length-take-le m s hm) (omega arith)) in
+          absurd (h .never (b .0 .0) (r .0 ++ drop m s) tt (b .2 .0) (rw (← append-assoc, ← r .1, take-append-drop))))
           (le-or-lt m (length (A .text (b .0 .0))))
+
       never : (v : X × Y) (r : List ℕ) → R r → both A B .Valid v → s ≡ both A B .text v ++ r → ⊥
       never v r _ hv e = h .never (v .0) (B (v .0) .text (v .1) ++ r) tt (hv .0) (e ∙ append-assoc (A .text (v .0)) (B (v .0) .text (v .1)) r)
 
@@ -46,12 +48,15 @@ module _ {X Y : Type 0} (A : Code X) (B : X → Code Y) (R : List ℕ → Type 0
     where
       first : take n s ≡ A .text v
       first = rw (g .size) (ap (take (length (A .text v))) (g .whole) ∙ take-append-seam _ _)
+
       n≤ : n ≤ length s
       n≤ = omega (arith, g .size, ap length (g .whole), length-append (A .text v) (drop n s))
+
       begun : Begins (both A B) (take (n + m) s)
       begun =
           let b = h .longest .begun in
           ((v, b .0), b .1, (g .valid, b .2), rw (take-add, first, append-assoc, b .3))
+
       most : (k : ℕ) → k ≤ length s → Begins (both A B) (take k s) → k ≤ n + m
       most k hk b = ⊎-elim (λ (le : k ≤ n). omega arith) (λ (lt : n < k). further lt) (le-or-lt k n)
         where
@@ -60,10 +65,11 @@ module _ {X Y : Type 0} (A : Code X) (B : X → Code Y) (R : List ℕ → Type 0
               let j : ℕ = k - n in
               let kj : k ≡ n + j = omega arith in
               let e : A .text v ++ (take j (drop n s) ++ b .1) ≡ A .text (b .0 .0) ++ B (b .0 .0) .text (b .0 .1) =
-                  rw (← append-assoc, ← first, ← take-add, ← kj) (b .3) in
+              rw (← append-assoc, ← first, ← take-add, ← kj) (b .3) in
               let q = carry v (b .0 .0) (pre v (b .0 .0) _ _ (g .valid) (b .2 .0) e) (λ (l : List ℕ). l) (take j (drop n s) ++ b .1) (b .0 .1) (b .2 .1) e in
               let jm : j ≤ m = h .longest .most j (omega (arith, length-drop n s)) (b .0 .1, b .1, q .0, q .1) in
               omega arith
+
       never : (p : X × Y) (r : List ℕ) → R r → both A B .Valid p → s ≡ both A B .text p ++ r → ⊥
       never p r hr hv e =
           let e' : A .text v ++ drop n s ≡ A .text (p .0) ++ (B (p .0) .text (p .1) ++ r) = sym (g .whole) ∙ e ∙ append-assoc (A .text (p .0)) (B (p .0) .text (p .1)) r in
@@ -76,12 +82,12 @@ module _ {X Y : Type 0} (A : Code X) (B : X → Code Y) (R : List ℕ → Type 0
         valid = (g .valid, h .valid);
         size = rw (length-append, ← g .size, ← h .size);
         whole = g .whole ∙ rw (append-assoc, ← drop-drop) (ap (λ (l : List ℕ). A .text v ++ l) (h .whole));
-        rest = rw (← drop-drop) (h .rest)
+        rest = rw (← drop-drop) (h .rest);
       }
 
   -- one right reading after another is a right reading of both
   pub both-right : ((v : X) → A .Valid v → (w : Y) × B v .Valid w) → (s : List ℕ) (o : Reading X) (f : X → List ℕ → Reading Y)
-    → Right Any A s o → ((v : X) → A .Valid v → (r : List ℕ) → Right R (B v) r (f v r)) → Right R (both A B) s (andThen s o f)
+      → Right Any A s o → ((v : X) → A .Valid v → (r : List ℕ) → Right R (B v) r (f v r)) → Right R (both A B) s (andThen s o f)
   both-right fill s (stuck n) f h k = stuck-first fill s n h
   both-right fill s (got v n) f h k = go (f v (drop n s)) (k v (h .valid) (drop n s))
     where

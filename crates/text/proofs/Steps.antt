@@ -21,7 +21,7 @@ module _ {X Y : Type 0} (R : List ℕ → Type 0) (C : Code X) (some : Some C) w
         valid = after .valid w (h .valid);
         size = rw (after .text w (h .valid)) (ap suc (h .size));
         whole = rw (after .text w (h .valid)) (ap (λ (l : List ℕ). b ∷ l) (h .whole));
-        rest = h .rest
+        rest = h .rest;
       }
   step-right b D g after s (stuck n) h =
       record { longest = record { within = suc-le-suc (h .longest .within); begun = begun; most = most }; never = never }
@@ -30,11 +30,13 @@ module _ {X Y : Type 0} (R : List ℕ → Type 0) (C : Code X) (some : Some C) w
       begun =
           let k = h .longest .begun in
           (g (k .0), k .1, after .valid (k .0) (k .2), rw (after .text (k .0) (k .2)) (ap (λ (l : List ℕ). b ∷ l) (k .3)))
+
       most : (m : ℕ) → m ≤ suc (length s) → Begins C (take m (b ∷ s)) → m ≤ suc n
       most zero hm k = zero-le
       most (suc m) hm k =
           let w = after .back (k .0) (take m s ++ k .1) (k .2) (sym (k .3)) in
           suc-le-suc (h .longest .most m (le-of-suc-le-suc hm) (w .0, k .1, w .1, sym (w .2)))
+
       never : (v : X) (r : List ℕ) → R r → C .Valid v → b ∷ s ≡ C .text v ++ r → ⊥
       never v r hr hv e =
           let f = first-byte (C .text v) r b s (some v hv) e in
@@ -47,7 +49,7 @@ module _ {X : Type 0} (R : List ℕ → Type 0) (C : Code X) (some : Some C) (v�
   stop-right b no′ s =
       record {
         longest = record { within = zero-le; begun = (v₀, C .text v₀, h₀, refl); most = most };
-        never = λ v r hr hv e. let f = first-byte (C .text v) r b s (some v hv) e in no′ v (f .0) hv (f .1)
+        never = λ v r hr hv e. let f = first-byte (C .text v) r b s (some v hv) e in no′ v (f .0) hv (f .1);
       }
     where
       most : (m : ℕ) → m ≤ suc (length s) → Begins C (take m (b ∷ s)) → m ≤ 0
@@ -58,5 +60,5 @@ module _ {X : Type 0} (R : List ℕ → Type 0) (C : Code X) (some : Some C) (v�
   end-right =
       record {
         longest = record { within = zero-le; begun = (v₀, C .text v₀, h₀, refl); most = λ m hm k. hm };
-        never = λ v r hr hv e. some v hv (empty-first (C .text v) r e)
+        never = λ v r hr hv e. some v hv (empty-first (C .text v) r e);
       }

@@ -1,13 +1,13 @@
 use native.Mathlib.Omega.{arith}
 use denote.Ref.{now}
-use mathlib.Core.List.{List, [], _∷_}
+use mathlib.Core.List.{[], _∷_}
 use borrow.Author.Tests.{not-true, not-false}
 use Rattle.sheet.proofs.Stepped.{not-whole}
 use Rattle.sheet.proofs.Counting.{counted}
 use Rattle.sheet.proofs.Annotated.{One, one-line, lines-stuck, lines-all}
-use Prim.Native.Nat.{ℕ, _+_, _-_, _≤_, _<_}
-use mathlib.Core.Bool.{true, false}
-use mathlib.Core.Path.{_≡_, refl, sym, _∙_, ap}
+use Prim.Native.Nat.{ℕ, _+_, _-_, _≤_}
+use mathlib.Core.Bool.{false}
+use mathlib.Core.Path.{_≡_, refl, _∙_, ap}
 use lib.ListN.{length, drop}
 use Rattle.text.specs.Combine.{readUpTo}
 use Rattle.text.proofs.Passed.{Passed, ahead, passed-none, passed-more, upTo-end, upTo-full, upTo-stuck, upTo-more}
@@ -86,10 +86,13 @@ loop-again c =
     let l = c .before .before .before .before .before .before .loop in
     let r = c .before .before .before .annotation-line in
     let n = r .result .size in
-    let o = readAnnotations (drop (a .from) (now (a .s))) in
-    (omega arith, r .ensures .1, omega arith,
-    passed-more o (l .k) (l .at - a .from) (readUpTo readAnnotation (200 - l .k) (drop (l .at) (now (a .s)))) (l .inv .3) (one c .value) n (readUpTo readAnnotation (200 - (l .k + 1)) (drop (l .at + n) (now (a .s)))) (l .at + n - a .from) (omega arith)
-    (upTo-more readAnnotation (now (a .s)) (l .at) (200 - l .k) (one c .value) n (omega arith) (omega arith) (one c .here) ∙ ap (λ (j : ℕ). ahead (one c .value ∷ []) n (readUpTo readAnnotation j (drop (l .at + n) (now (a .s))))) (let q : 200 - l .k - 1 ≡ 200 - (l .k + 1) = omega arith in q)))
+    let o = readAnnotations (drop (a .from) (now (a .s))) in (
+      omega arith,
+      r .ensures .1,
+      omega arith,
+      passed-more o (l .k) (l .at - a .from) (readUpTo readAnnotation (200 - l .k) (drop (l .at) (now (a .s)))) (l .inv .3) (one c .value) n (readUpTo readAnnotation (200 - (l .k + 1)) (drop (l .at + n) (now (a .s)))) (l .at + n - a .from) (omega arith)
+          (upTo-more readAnnotation (now (a .s)) (l .at) (200 - l .k) (one c .value) n (omega arith) (omega arith) (one c .here) ∙ ap (λ (j : ℕ). ahead (one c .value ∷ []) n (readUpTo readAnnotation j (drop (l .at + n) (now (a .s))))) (let q : 200 - l .k - 1 ≡ 200 - (l .k + 1) = omega arith in q)),
+    )
 
 -- src/lib.rt:233:34
 sub-t11 : tie.Need-sub-t11 Inv-loop μ-loop

@@ -4,7 +4,7 @@ use Rattle.sheet.specs.Read.{readAnnotation}
 use Rattle.sheet.specs.Steps.{stepOf}
 use Rattle.sheet.specs.declared.Step.{Step}
 use Rattle.sheet.proofs.Parts.{LineIn, line-in, line-from}
-use Prim.Native.Nat.{ℕ, _+_, _-_, _≤_, _<_}
+use Prim.Native.Nat.{ℕ, _+_, _-_, _≤_}
 use mathlib.Core.Path.{_≡_, sym, _∙_, ap}
 use lib.ListN.{length, take, drop}
 use Rattle.sheet.specs.Sheet.{line, lines}

@@ -5,7 +5,7 @@ use Rattle.text.proofs.Hexes.{hex-byte, value-more, value-all, bound-more, boun
 use Rattle.sheet.proofs.Fields.{digit-at}
 use Prim.Native.Nat.{ℕ, _+_, _-_, _*_, _^_, _≤_, _<_}
 use mathlib.Core.Path.{_≡_, refl, sym, _∙_, ap, subst}
-use lib.ListN.{length, take, drop, getD, length-drop}
+use lib.ListN.{take, drop, getD, length-drop}
 use Rattle.text.specs.Hex.{hexFrom, hexValue, unhex}
 use Rattle.sheet.proofs.hex_value.Statement.{statement}
 use Rattle.sheet.proofs.hex_value.Tie as tie
@@ -67,9 +67,11 @@ loop-again c =
     let a = c .before .before .before .before .before .args in
     let l = c .before .before .before .loop in
     let d = digit-at (now (a .s)) (a .at) (a .n) (l .i) (omega arith) (omega arith) (c .before .before .before .before .before .pre .1) in
-    let w = take (a .n) (drop (a .at) (now (a .s))) in
-    (omega arith, bound-more (l .v) (c .digit-of .result) (l .i) (l .inv .1) (digit-lt c),
-    ap (λ (x : ℕ). hexFrom (16 * l .v + x) (drop (l .i + 1) w)) (c .digit-of .ensures ∙ ap unhex (d .0)) ∙ sym (value-more w (l .i) (l .v) (omega (arith, d .2))) ∙ l .inv .2)
+    let w = take (a .n) (drop (a .at) (now (a .s))) in (
+      omega arith,
+      bound-more (l .v) (c .digit-of .result) (l .i) (l .inv .1) (digit-lt c),
+      ap (λ (x : ℕ). hexFrom (16 * l .v + x) (drop (l .i + 1) w)) (c .digit-of .ensures ∙ ap unhex (d .0)) ∙ sym (value-more w (l .i) (l .v) (omega (arith, d .2))) ∙ l .inv .2,
+    )
 
 -- src/lib.rt:248:1
 returns : tie.Need-returns Inv-loop μ-loop

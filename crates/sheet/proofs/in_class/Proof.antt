@@ -1,5 +1,5 @@
 use Rattle.sheet.specs.Steps.{classOf}
-use mathlib.Core.Path.{_≡_, refl, sym, _∙_, ap}
+use mathlib.Core.Path.{sym, _∙_, ap}
 use borrow.Author.Needs.{needs}
 use Rattle.sheet.proofs.in_class.Statement.{statement}
 use Rattle.sheet.proofs.in_class.Tie as tie

@@ -1,7 +1,4 @@
-use borrow.Author.Tests.{le-leb, lt-leb}
-use mathlib.Core.Path.{_≡_, refl, sym, _∙_, ap}
-use lib.Dec.{leb, eqb}
-use mathlib.Core.Bool.{Bool, true, false, not, _&&_, _||_}
+use borrow.Author.Tests.{le-leb}
 use native.Mathlib.Omega.{arith}
 use Rattle.sheet.proofs.in_value.Statement.{statement}
 use Rattle.sheet.proofs.in_value.Tie as tie

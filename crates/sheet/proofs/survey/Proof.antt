@@ -1,7 +1,7 @@
 use native.Mathlib.Omega.{arith}
 use denote.Ref.{now}
 use Prim.Native.Nat.{ℕ, _+_, _^_, _<_}
-use mathlib.Core.Path.{_≡_, refl, sym, _∙_, ap, subst}
+use mathlib.Core.Path.{refl, sym, _∙_, ap, subst}
 use mathlib.Core.List.{_++_}
 use borrow.Author.Tests.{not-true, not-false}
 use lib.ListN.{length, take, drop, length-drop}
@@ -91,7 +91,7 @@ broken-requires-2 c κs = search needs
 returns-2 : tie.Need-returns-2
 returns-2 c =
     let r = c .before .before .before .before .keyed-line2 in
-    c .broken2 .ensures ∙ sym (ap outlineOf (stuck-pins (now (c .before .before .before .before .before .before .before .before .before .before .before .args .s)) (c .before .before .before .before .before .before .before .before .keyed-line .result .size) (c .before .before .before .before .keyed-line2 .result .size) (deed-at (c .before .before .before .before .before .before )) (hex-stuck (pinsWord ++ eq) 2 (now (c .before .before .before .before .before .before .before .before .before .before .before .args .s)) (c .before .before .before .before .before .before .before .before .keyed-line .result .size) (r .result) (r .ensures .0) (not-true _ (c .before .before .if2 .taken)))))
+    c .broken2 .ensures ∙ sym (ap outlineOf (stuck-pins (now (c .before .before .before .before .before .before .before .before .before .before .before .args .s)) (c .before .before .before .before .before .before .before .before .keyed-line .result .size) (c .before .before .before .before .keyed-line2 .result .size) (deed-at (c .before .before .before .before .before .before)) (hex-stuck (pinsWord ++ eq) 2 (now (c .before .before .before .before .before .before .before .before .before .before .before .args .s)) (c .before .before .before .before .before .before .before .before .keyed-line .result .size) (r .result) (r .ensures .0) (not-true _ (c .before .before .if2 .taken)))))
 
 -- src/lib.rt:388:20
 add-count-at : tie.Need-add-count-at
@@ -113,7 +113,7 @@ broken-requires-3 c κs = search needs
 returns-3 : tie.Need-returns-3
 returns-3 c =
     let r = c .before .before .before .before .count-line in
-    c .broken3 .ensures ∙ sym (ap outlineOf (stuck-count (now (c .before .before .before .before .before .before .before .before .before .before .before .before .before .before .before .args .s)) (c .before .before .before .before .before .before .before .before .before .before .before .before .keyed-line .result .size) (c .before .before .before .before .before .before .before .before .keyed-line2 .result .size) 0 (r .result .size) (pins-at (c .before .before .before .before .before .before )) (counted-stuck (λ (n : ℕ). n) (readCount (drop ((c .before .before .before .before .before .before .before .before .before .before .before .before .keyed-line .result .size) + (c .before .before .before .before .before .before .before .before .keyed-line2 .result .size)) (now (c .before .before .before .before .before .before .before .before .before .before .before .before .before .before .before .args .s)))) (r .result) (r .ensures .0) (not-true _ (c .before .before .if3 .taken)))))
+    c .broken3 .ensures ∙ sym (ap outlineOf (stuck-count (now (c .before .before .before .before .before .before .before .before .before .before .before .before .before .before .before .args .s)) (c .before .before .before .before .before .before .before .before .before .before .before .before .keyed-line .result .size) (c .before .before .before .before .before .before .before .before .keyed-line2 .result .size) 0 (r .result .size) (pins-at (c .before .before .before .before .before .before)) (counted-stuck (λ (n : ℕ). n) (readCount (drop ((c .before .before .before .before .before .before .before .before .before .before .before .before .keyed-line .result .size) + (c .before .before .before .before .before .before .before .before .keyed-line2 .result .size)) (now (c .before .before .before .before .before .before .before .before .before .before .before .before .before .before .before .args .s)))) (r .result) (r .ensures .0) (not-true _ (c .before .before .if3 .taken)))))
 
 -- src/lib.rt:393:21
 add-writes-at : tie.Need-add-writes-at
@@ -135,7 +135,7 @@ broken-requires-4 c κs = search needs
 returns-4 : tie.Need-returns-4
 returns-4 c =
     let r = c .before .before .before .before .write-lines in
-    c .broken4 .ensures ∙ sym (ap outlineOf (stuck-writes (now (c .before .before .before .before .before .before .before .before .before .before .before .before .before .before .before .before .before .before .before .args .s)) (c .before .before .before .before .before .before .before .before .before .before .before .before .before .before .before .before .keyed-line .result .size) (c .before .before .before .before .before .before .before .before .before .before .before .before .keyed-line2 .result .size) (c .before .before .before .before .before .before .before .before .count-line .result .count) (c .before .before .before .before .before .before .before .before .count-line .result .size) (r .result .size) (count-at (c .before .before .before .before .before .before )) (written-stuck (readTimes readAt (c .before .before .before .before .before .before .before .before .count-line .result .count) (drop ((c .before .before .before .before .before .before .before .before .before .before .before .before .before .before .before .before .keyed-line .result .size) + (c .before .before .before .before .before .before .before .before .before .before .before .before .keyed-line2 .result .size) + (c .before .before .before .before .before .before .before .before .count-line .result .size)) (now (c .before .before .before .before .before .before .before .before .before .before .before .before .before .before .before .before .before .before .before .args .s)))) (r .result) (r .ensures .0) (not-true _ (c .before .before .if4 .taken)))))
+    c .broken4 .ensures ∙ sym (ap outlineOf (stuck-writes (now (c .before .before .before .before .before .before .before .before .before .before .before .before .before .before .before .before .before .before .before .args .s)) (c .before .before .before .before .before .before .before .before .before .before .before .before .before .before .before .before .keyed-line .result .size) (c .before .before .before .before .before .before .before .before .before .before .before .before .keyed-line2 .result .size) (c .before .before .before .before .before .before .before .before .count-line .result .count) (c .before .before .before .before .before .before .before .before .count-line .result .size) (r .result .size) (count-at (c .before .before .before .before .before .before)) (written-stuck (readTimes readAt (c .before .before .before .before .before .before .before .before .count-line .result .count) (drop ((c .before .before .before .before .before .before .before .before .before .before .before .before .before .before .before .before .keyed-line .result .size) + (c .before .before .before .before .before .before .before .before .before .before .before .before .keyed-line2 .result .size) + (c .before .before .before .before .before .before .before .before .count-line .result .size)) (now (c .before .before .before .before .before .before .before .before .before .before .before .before .before .before .before .before .before .before .before .args .s)))) (r .result) (r .ensures .0) (not-true _ (c .before .before .if4 .taken)))))
 
 -- src/lib.rt:398:16
 add-tail : tie.Need-add-tail
@@ -157,20 +157,20 @@ broken-requires-5 c κs = search needs
 returns-5 : tie.Need-returns-5
 returns-5 c =
     let r = c .before .before .before .before .annotation-lines in
-    c .broken5 .ensures ∙ sym (ap outlineOf (stuck-annotations (now (c .before .before .before .before .before .before .before .before .before .before .before .before .before .before .before .before .before .before .before .before .before .before .before .args .s)) (c .before .before .before .before .before .before .before .before .before .before .before .before .before .before .before .before .before .before .before .before .keyed-line .result .size) (c .before .before .before .before .before .before .before .before .before .before .before .before .before .before .before .before .keyed-line2 .result .size) (c .before .before .before .before .before .before .before .before .before .before .before .before .count-line .result .count) (c .before .before .before .before .before .before .before .before .before .before .before .before .count-line .result .size) (c .before .before .before .before .before .before .before .before .write-lines .result .writes) (c .before .before .before .before .before .before .before .before .write-lines .result .size) (writes-at (c .before .before .before .before .before .before )) (r .result .size) (counted-stuck length (readAnnotations (drop ((c .before .before .before .before .before .before .before .before .before .before .before .before .before .before .before .before .before .before .before .before .keyed-line .result .size) + (c .before .before .before .before .before .before .before .before .before .before .before .before .before .before .before .before .keyed-line2 .result .size) + (c .before .before .before .before .before .before .before .before .before .before .before .before .count-line .result .size) + (c .before .before .before .before .before .before .before .before .write-lines .result .size)) (now (c .before .before .before .before .before .before .before .before .before .before .before .before .before .before .before .before .before .before .before .before .before .before .before .args .s)))) (r .result) (r .ensures .0) (not-true _ (c .before .before .if5 .taken)))))
+    c .broken5 .ensures ∙ sym (ap outlineOf (stuck-annotations (now (c .before .before .before .before .before .before .before .before .before .before .before .before .before .before .before .before .before .before .before .before .before .before .before .args .s)) (c .before .before .before .before .before .before .before .before .before .before .before .before .before .before .before .before .before .before .before .before .keyed-line .result .size) (c .before .before .before .before .before .before .before .before .before .before .before .before .before .before .before .before .keyed-line2 .result .size) (c .before .before .before .before .before .before .before .before .before .before .before .before .count-line .result .count) (c .before .before .before .before .before .before .before .before .before .before .before .before .count-line .result .size) (c .before .before .before .before .before .before .before .before .write-lines .result .writes) (c .before .before .before .before .before .before .before .before .write-lines .result .size) (writes-at (c .before .before .before .before .before .before)) (r .result .size) (counted-stuck length (readAnnotations (drop ((c .before .before .before .before .before .before .before .before .before .before .before .before .before .before .before .before .before .before .before .before .keyed-line .result .size) + (c .before .before .before .before .before .before .before .before .before .before .before .before .before .before .before .before .keyed-line2 .result .size) + (c .before .before .before .before .before .before .before .before .before .before .before .before .count-line .result .size) + (c .before .before .before .before .before .before .before .before .write-lines .result .size)) (now (c .before .before .before .before .before .before .before .before .before .before .before .before .before .before .before .before .before .before .before .before .before .before .before .args .s)))) (r .result) (r .ensures .0) (not-true _ (c .before .before .if5 .taken)))))
 
 -- src/lib.rt:407:15
 sub-t24 : tie.Need-sub-t24
-sub-t24 c = omega (arith, deed-at (c .before .before .before .before .before .before .before .before .before .before .before .before .before .before .before .before .before .before ) .long)
+sub-t24 c = omega (arith, deed-at (c .before .before .before .before .before .before .before .before .before .before .before .before .before .before .before .before .before .before) .long)
 
 -- src/lib.rt:408:28
 add-hex-value : tie.Need-add-hex-value
-add-hex-value c = omega (arith, short (c .before .before .before .before .before .before .before .before .before .before .before .before .before .before .before .before .before .before .before .before .before .before), pins-at (c .before .before .before .before .before .before .before .before .before .before .before .before .before .before ) .pins .long, c .before .before .before .before .before .before .before .before .before .before .before .before .before .before .before .before .keyed-line2 .ensures .1)
+add-hex-value c = omega (arith, short (c .before .before .before .before .before .before .before .before .before .before .before .before .before .before .before .before .before .before .before .before .before .before), pins-at (c .before .before .before .before .before .before .before .before .before .before .before .before .before .before) .pins .long, c .before .before .before .before .before .before .before .before .before .before .before .before .before .before .before .before .keyed-line2 .ensures .1)
 
 -- src/lib.rt:408:15
 hex-value-requires : tie.Need-hex-value-requires
 hex-value-requires c κs =
-    let p = pins-at (c .before .before .before .before .before .before .before .before .before .before .before .before .before .before ) .pins in
+    let p = pins-at (c .before .before .before .before .before .before .before .before .before .before .before .before .before .before) .pins in
     ((omega arith, omega (arith, p .long, c .before .before .before .before .before .before .before .before .before .before .before .before .before .before .before .before .keyed-line2 .ensures .1)), p .digits)
 
 -- src/lib.rt:408:15
@@ -178,7 +178,7 @@ cast-t27 : tie.Need-cast-t27
 cast-t27 c =
     let s = (now (c .before .before .before .before .before .before .before .before .before .before .before .before .before .before .before .before .before .before .before .before .before .before .before .before .args .s)) in
     let n = (c .before .before .before .before .before .before .before .before .before .before .before .before .before .before .before .before .before .before .before .before .before .keyed-line .result .size) in
-    let p = pins-at (c .before .before .before .before .before .before .before .before .before .before .before .before .before .before .before ) .pins in
+    let p = pins-at (c .before .before .before .before .before .before .before .before .before .before .before .before .before .before .before) .pins in
     let w = length-take-le 2 (drop (n + 5) s) (omega (arith, length-drop (n + 5) s, p .long, c .before .before .before .before .before .before .before .before .before .before .before .before .before .before .before .before .before .keyed-line2 .ensures .1)) in
     omega (arith, c .hex-value .ensures, subst (λ (k : ℕ). hexValue (take 2 (drop (n + 5) s)) < 16 ^ k) w (value-lt (take 2 (drop (n + 5) s)) (p .digits)))
 
@@ -187,7 +187,7 @@ returns-6 : tie.Need-returns-6
 returns-6 c =
     let r = c .before .before .before .before .before .annotation-lines in
     let g = counted-got length (readAnnotations (drop ((c .before .before .before .before .before .before .before .before .before .before .before .before .before .before .before .before .before .before .before .before .before .keyed-line .result .size) + (c .before .before .before .before .before .before .before .before .before .before .before .before .before .before .before .before .before .keyed-line2 .result .size) + (c .before .before .before .before .before .before .before .before .before .before .before .before .before .count-line .result .size) + (c .before .before .before .before .before .before .before .before .before .write-lines .result .size)) (now (c .before .before .before .before .before .before .before .before .before .before .before .before .before .before .before .before .before .before .before .before .before .before .before .before .args .s)))) (r .result) (r .ensures .0) (not-false _ (c .before .before .before .if5 .left)) in
-    outlined (now (c .before .before .before .before .before .before .before .before .before .before .before .before .before .before .before .before .before .before .before .before .before .before .before .before .args .s)) (c .before .before .before .before .before .before .before .before .before .before .before .before .before .before .before .before .before .before .before .before .before .keyed-line .result .size) (c .before .before .before .before .before .before .before .before .before .before .before .before .before .before .before .before .before .keyed-line2 .result .size) (c .before .before .before .before .before .before .before .before .before .before .before .before .before .count-line .result .count) (c .before .before .before .before .before .before .before .before .before .before .before .before .before .count-line .result .size) (c .before .before .before .before .before .before .before .before .before .write-lines .result .writes) (c .before .before .before .before .before .before .before .before .before .write-lines .result .size) (writes-at (c .before .before .before .before .before .before .before )) (g .0) (r .result .size) (r .result .count) (g .1) (g .2) (c .hex-value .result) (c .hex-value .ensures)
+    outlined (now (c .before .before .before .before .before .before .before .before .before .before .before .before .before .before .before .before .before .before .before .before .before .before .before .before .args .s)) (c .before .before .before .before .before .before .before .before .before .before .before .before .before .before .before .before .before .before .before .before .before .keyed-line .result .size) (c .before .before .before .before .before .before .before .before .before .before .before .before .before .before .before .before .before .keyed-line2 .result .size) (c .before .before .before .before .before .before .before .before .before .before .before .before .before .count-line .result .count) (c .before .before .before .before .before .before .before .before .before .before .before .before .before .count-line .result .size) (c .before .before .before .before .before .before .before .before .before .write-lines .result .writes) (c .before .before .before .before .before .before .before .before .before .write-lines .result .size) (writes-at (c .before .before .before .before .before .before .before)) (g .0) (r .result .size) (r .result .count) (g .1) (g .2) (c .hex-value .result) (c .hex-value .ensures)
 
 pub survey-spec : {M : Type 1} → statement M
 survey-spec =

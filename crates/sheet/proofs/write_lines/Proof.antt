@@ -1,12 +1,12 @@
 use native.Mathlib.Omega.{arith}
 use denote.Ref.{now}
-use mathlib.Core.List.{List, [], _∷_, _++_}
+use mathlib.Core.List.{[], _∷_, _++_}
 use borrow.Author.Tests.{not-true, not-false}
 use Rattle.text.specs.Code.{got}
 use Rattle.text.proofs.Passed.{ahead, times-end, times-stuck, times-more}
 use Rattle.sheet.specs.Sheet.{atWord, eq}
 use Rattle.sheet.proofs.Fields.{HexField, hex-field, hex-stuck}
-use Prim.Native.Nat.{ℕ, _+_, _-_, _≤_, _<_}
+use Prim.Native.Nat.{ℕ, _+_, _-_, _≤_}
 use mathlib.Core.Path.{_≡_, refl, sym, _∙_, ap}
 use lib.ListN.{length, drop}
 use Rattle.text.specs.Combine.{readTimes}
@@ -101,11 +101,14 @@ loop-again c =
     let r = c .before .before .before .before .keyed-line in
     let n = r .result .size in
     let f = one (c .before .before) in
-    let v = c .before .hex-value in
-    (omega arith, r .ensures .1, omega arith,
-    filled-more (l .out) (l .i) (l .at - a .from) (readTimes readAt (a .count) (drop (a .from) (now (a .s)))) (readTimes readAt (a .count - l .i) (drop (l .at) (now (a .s)))) (l .inv .3) (omega arith) (v .result) n (readTimes readAt (a .count - (l .i + 1)) (drop (l .at + n) (now (a .s)))) (l .at + n - a .from) (omega arith)
-    (times-more readAt (now (a .s)) (l .at) (a .count - l .i) (v .result) n (omega arith) (f .here ∙ ap (λ (x : ℕ). got x n) (sym (v .ensures)))
-    ∙ ap (λ (j : ℕ). ahead (v .result ∷ []) n (readTimes readAt j (drop (l .at + n) (now (a .s))))) (let q : a .count - l .i - 1 ≡ a .count - (l .i + 1) = omega arith in q)))
+    let v = c .before .hex-value in (
+      omega arith,
+      r .ensures .1,
+      omega arith,
+      filled-more (l .out) (l .i) (l .at - a .from) (readTimes readAt (a .count) (drop (a .from) (now (a .s)))) (readTimes readAt (a .count - l .i) (drop (l .at) (now (a .s)))) (l .inv .3) (omega arith) (v .result) n (readTimes readAt (a .count - (l .i + 1)) (drop (l .at + n) (now (a .s)))) (l .at + n - a .from) (omega arith)
+          (times-more readAt (now (a .s)) (l .at) (a .count - l .i) (v .result) n (omega arith) (f .here ∙ ap (λ (x : ℕ). got x n) (sym (v .ensures)))
+          ∙ ap (λ (j : ℕ). ahead (v .result ∷ []) n (readTimes readAt j (drop (l .at + n) (now (a .s))))) (let q : a .count - l .i - 1 ≡ a .count - (l .i + 1) = omega arith in q)),
+    )
 
 -- src/lib.rt:356:33
 sub-t21 : tie.Need-sub-t21 Inv-loop μ-loop
