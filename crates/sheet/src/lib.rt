@@ -9,7 +9,7 @@ ghost use Rattle.answer.specs.Told.{toldOf};
 ghost use Rattle.text.specs.Code.{stuck};
 ghost use Rattle.text.specs.Combine.{All, span, common, readClosed, readLed, readTimes};
 ghost use Rattle.text.specs.Hex.{between, hexByte, unhex, hexValue};
-ghost use Rattle.sheet.specs.Sheet.{deedByte, keyByte, valueByte, same, lines};
+ghost use Rattle.sheet.specs.Sheet.{same, lines};
 ghost use Rattle.sheet.specs.Read.{closing as closingRead, more, readSecond, readNumber, readCount, readAt, readAnnotation, readAnnotations, readLines};
 ghost use Rattle.sheet.specs.Given.{accepted, toldIn, fieldsIn, padded, deedFrom, tailFrom, annotationFrom, lineAt};
 ghost use Rattle.sheet.specs.Steps.{classOf, stepOf, countedOf, writesOf, outlineOf, freeKey};
@@ -70,38 +70,15 @@ fn within(a: u8, z: u8, b: u8) -> bool
     (a <= b) & (b <= z)
 }
 
-fn in_deed(b: u8) -> bool
-    ensures { λ r. ⌜ r ≡ deedByte b ⌝ }
-{
-    within(b'A', b'Z', b) | (within(b'0', b'9', b) | (b == b'-'))
-}
-
-fn in_hex(b: u8) -> bool
-    ensures { λ r. ⌜ r ≡ hexByte b ⌝ }
-{
-    within(b'0', b'9', b) | within(b'A', b'F', b)
-}
-
-fn in_key(b: u8) -> bool
-    ensures { λ r. ⌜ r ≡ keyByte b ⌝ }
-{
-    within(b'a', b'z', b) | (b == b'-')
-}
-
-fn in_value(b: u8) -> bool
-    ensures { λ r. ⌜ r ≡ valueByte b ⌝ }
-{
-    b != 10
-}
-
+// Whether b is a byte of the class.
 fn in_class(class: Class, b: u8) -> bool
     ensures { λ r. ⌜ r ≡ classOf class b ⌝ }
 {
     match class {
-        Class::Deed => in_deed(b),
-        Class::Hex => in_hex(b),
-        Class::Key => in_key(b),
-        Class::Value => in_value(b),
+        Class::Deed => within(b'A', b'Z', b) | (within(b'0', b'9', b) | (b == b'-')),
+        Class::Hex => within(b'0', b'9', b) | within(b'A', b'F', b),
+        Class::Key => within(b'a', b'z', b) | (b == b'-'),
+        Class::Value => b != 10,
     }
 }
 
