@@ -224,9 +224,9 @@ fn annotation_lines(s: &[u8], from: usize) -> Counted
     ensures { λ r. ⌜ from + r .size ≤ length (now (s .entry)) ⌝ }
 {
     let mut at = from;
-    let mut k: usize = 0;
+    let mut many: usize = 0;
     while at < s.len() {
-        if 200 <= k {
+        if 200 <= many {
             return Counted {
                 whole: false,
                 size: at - from,
@@ -242,12 +242,12 @@ fn annotation_lines(s: &[u8], from: usize) -> Counted
             };
         }
         at += line.size;
-        k += 1;
+        many += 1;
     }
     Counted {
         whole: true,
         size: at - from,
-        count: k,
+        count: many,
     }
 }
 
@@ -484,11 +484,11 @@ fn annotation_start(s: &[u8], from: usize, n: usize) -> usize
     ensures { λ r. ⌜ r ≡ annotationFrom (now (s .entry)) n ⌝ }
 {
     let mut at = from;
-    let mut i: usize = 0;
-    while i < n {
+    let mut k: usize = 0;
+    while k < n {
         let line = annotation_line(s, at);
         at += line.size;
-        i += 1;
+        k += 1;
     }
     at
 }

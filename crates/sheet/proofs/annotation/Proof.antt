@@ -1,15 +1,16 @@
-use native.Mathlib.Omega.{arith}
-use denote.Ref.{now}
+-- `annotation`: an annotation line as a part.
 use Prim.Native.Nat.{ℕ, _+_, _-_, _<_}
+use native.Mathlib.Omega.{arith}
 use mathlib.Core.Path.{_≡_, refl, sym, _∙_, ap}
+use borrow.Author.Needs.{needs}
 use lib.ListN.{length, take, drop}
+use denote.Ref.{now}
 use Rattle.sheet.specs.Sheet.{line, lines}
 use Rattle.sheet.specs.Read.{readAnnotation, readLines, readSheet}
 use Rattle.sheet.specs.Given.{fieldsIn, tailFrom, annotationFrom, lineAt}
 use Rattle.sheet.specs.Steps.{stepOf}
 use Rattle.sheet.specs.declared.Step.{Step}
 use Rattle.sheet.proofs.Parts.{WholeGiven, whole-given, count-given, some-whole, LineIn, line-in, line-from, none-from, tail-at, part-move}
-use borrow.Author.Needs.{needs}
 use Rattle.sheet.proofs.annotation.Statement.{statement}
 use Rattle.sheet.proofs.annotation.Tie as tie
 use Rattle.sheet.proofs.annotation.Reads as reads
@@ -38,42 +39,33 @@ sized c =
     let r = c .before .annotation-line in
     ap (λ (x : Step). x .size) (r .ensures .0 ∙ ap (λ (j : ℕ). stepOf (readAnnotation (drop j s))) (started (c .before .before)) ∙ here (c .before .before .before) .read)
 
--- src/lib.rt:486:9
 survey-requires : tie.Need-survey-requires
 survey-requires c κs = search needs
 
--- src/lib.rt:488:13
 annotation-start-requires : tie.Need-annotation-start-requires
 annotation-start-requires c κs =
     let s = now (c .before .before .before .before .args .sheet) in
     let g = found c in
     (g .is-got, (g .tail ∙ sym (tail-at s (g .is-got)), in-range c))
 
--- src/lib.rt:489:13
 annotation-line-requires : tie.Need-annotation-line-requires
 annotation-line-requires c κs = omega (arith, started c, here (c .before) .within)
 
--- src/lib.rt:490:19
 add-end : tie.Need-add-end
 add-end c = search needs
 
--- src/lib.rt:490:19
 sub-end : tie.Need-sub-end
 sub-end c = omega (arith, sized c)
 
--- src/lib.rt:491:16
 sub-result : tie.Need-sub-result
 sub-result c = omega (arith, sized c)
 
--- src/lib.rt:491:16
 part-result-start : tie.Need-part-result-start
 part-result-start c = omega (arith, sized c)
 
--- src/lib.rt:491:16
 part-result-end : tie.Need-part-result-end
 part-result-end c = search needs
 
--- src/lib.rt:491:9
 returns : tie.Need-returns
 returns c =
     let a = c .before .before .before .before .before .before .before .before .args in
@@ -81,11 +73,9 @@ returns c =
     let h = here (c .before .before .before .before) in
     part-move (c .before .before .before .annotation-start .result) (c .before .before .before .annotation-start .result + c .before .before .annotation-line .result .size - 1 - c .before .before .before .annotation-start .result) (annotationFrom s (a .n)) (length (lineAt (fieldsIn s .annotations) (a .n))) (sym (c .before .before .before .annotation-start .ensures)) (ap length (h .named) ∙ omega (arith, sized (c .before))) (record { bytes = refl; block = refl; offset = refl })
 
--- src/lib.rt:493:5
 slice-aggregate-result : tie.Need-slice-aggregate-result
 slice-aggregate-result c = search needs
 
--- src/lib.rt:483:1
 returns-2 : tie.Need-returns-2
 returns-2 c =
     let a = c .before .before .before .before .before .args in

@@ -1,16 +1,17 @@
-use native.Mathlib.Omega.{arith}
-use denote.Ref.{now}
+-- `annotation_line`: an annotation line: the key, that it is free, and the value.
 use Prim.Native.Nat.{ℕ}
+use native.Mathlib.Omega.{arith}
 use mathlib.Core.Path.{sym, _∙_, ap}
 use mathlib.Core.List.{List}
 use borrow.Author.Tests.{not-true, not-false}
+use borrow.Author.Needs.{needs}
 use lib.ListN.{drop}
 use lib.Seq.{drop-drop}
+use denote.Ref.{now}
 use Rattle.text.specs.Combine.{readClosed}
 use Rattle.sheet.specs.Sheet.{valueByte}
 use Rattle.sheet.specs.Steps.{stepOf}
 use Rattle.sheet.proofs.Annotated.{key-stuck, key-read, key-taken, key-free}
-use borrow.Author.Needs.{needs}
 use Rattle.sheet.proofs.annotation_line.Statement.{statement}
 use Rattle.sheet.proofs.annotation_line.Tie as tie
 use Rattle.sheet.proofs.annotation_line.Reads as reads
@@ -18,11 +19,9 @@ use Rattle.sheet.proofs.annotation_line.Lts as lts
 use Rattle.sheet.proofs.closed_run.Reads as closed-run-reads
 use Rattle.sheet.proofs.is_free.Reads as is-free-reads
 
--- src/lib.rt:203:9
 closed-run-requires : tie.Need-closed-run-requires
 closed-run-requires c κs = search needs
 
--- src/lib.rt:205:9
 returns : tie.Need-returns
 returns c =
     let a = c .before .before .before .before .args in
@@ -30,11 +29,9 @@ returns c =
     let k = c .before .before .closed-run in
     (key-stuck l (k .result) (k .ensures .0) (not-true _ (c .if1 .taken)), k .ensures .1)
 
--- src/lib.rt:207:9
 is-free-requires : tie.Need-is-free-requires
 is-free-requires c κs = search needs
 
--- src/lib.rt:208:43
 sub-t8 : tie.Need-sub-t8
 sub-t8 c =
     let a = c .before .before .before .before .before .before .before .args in
@@ -42,7 +39,6 @@ sub-t8 c =
     let k = c .before .before .before .before .before .closed-run in
     key-read l (k .result) (k .ensures .0) (not-false _ (c .before .before .before .if1 .left)) .some
 
--- src/lib.rt:208:9
 returns-2 : tie.Need-returns-2
 returns-2 c =
     let a = c .before .before .before .before .before .before .before .args in
@@ -50,19 +46,15 @@ returns-2 c =
     let k = c .before .before .before .before .before .closed-run in
     (key-taken l (k .result) (k .ensures .0) (not-false _ (c .before .before .before .if1 .left)) (sym (c .before .before .is-free .ensures) ∙ not-true _ (c .before .if2 .taken)), omega (arith, k .ensures .1))
 
--- src/lib.rt:210:31
 add-closed-run : tie.Need-add-closed-run
 add-closed-run c = search needs
 
--- src/lib.rt:210:9
 closed-run-requires-2 : tie.Need-closed-run-requires-2
 closed-run-requires-2 c κs = search needs
 
--- src/lib.rt:211:38
 add-t9 : tie.Need-add-t9
 add-t9 c = search needs
 
--- src/lib.rt:198:1
 returns-3 : tie.Need-returns-3
 returns-3 c =
     let a = c .before .before .before .before .before .before .before .before .before .before .args in

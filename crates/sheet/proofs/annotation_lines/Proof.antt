@@ -1,17 +1,18 @@
-use native.Mathlib.Omega.{arith}
-use denote.Ref.{now}
-use mathlib.Core.List.{[], _∷_}
-use borrow.Author.Tests.{not-true, not-false}
-use Rattle.sheet.proofs.Stepped.{not-whole}
-use Rattle.sheet.proofs.Counting.{counted}
-use Rattle.sheet.proofs.Annotated.{One, one-line, lines-stuck, lines-all}
+-- `annotation_lines`: the annotation lines: line by line to the end.
 use Prim.Native.Nat.{ℕ, _+_, _-_, _≤_}
+use native.Mathlib.Omega.{arith}
+use mathlib.Core.List.{[], _∷_}
 use mathlib.Core.Bool.{false}
 use mathlib.Core.Path.{_≡_, refl, _∙_, ap}
+use borrow.Author.Tests.{not-true, not-false}
 use lib.ListN.{length, drop}
+use denote.Ref.{now}
 use Rattle.text.specs.Combine.{readUpTo}
 use Rattle.text.proofs.Passed.{Passed, ahead, passed-none, passed-more, upTo-end, upTo-full, upTo-stuck, upTo-more}
 use Rattle.sheet.specs.Read.{readAnnotation, readAnnotations}
+use Rattle.sheet.proofs.Stepped.{not-whole}
+use Rattle.sheet.proofs.Counting.{counted}
+use Rattle.sheet.proofs.Annotated.{One, one-line, lines-stuck, lines-all}
 use Rattle.sheet.proofs.annotation_lines.Statement.{statement}
 use Rattle.sheet.proofs.annotation_lines.Tie as tie
 use Rattle.sheet.proofs.annotation_lines.Reads as reads
@@ -19,67 +20,56 @@ use Rattle.sheet.proofs.annotation_lines.Lts as lts
 use Rattle.sheet.proofs.annotation_line.Reads as annotation-line-reads
 
 abbrev Inv-loop : tie.InvT-loop
-Inv-loop s from at₀ k₀ at k =
-    (from ≤ at) × (at ≤ length s) × (k ≤ 200) × Passed (readAnnotations (drop from s)) k (at - from) (readUpTo readAnnotation (200 - k) (drop at s))
+Inv-loop s from at₀ many₀ at many =
+    (from ≤ at) × (at ≤ length s) × (many ≤ 200) × Passed (readAnnotations (drop from s)) many (at - from) (readUpTo readAnnotation (200 - many) (drop at s))
 
 abbrev μ-loop : tie.MeasureT-loop
-μ-loop s from at₀ k₀ at k = length s - at
+μ-loop s from at₀ many₀ at many = length s - at
 
 -- the line that is read in this turn
 one : (c : tie.After-struct-known3 Inv-loop μ-loop) → One (drop (c .before .before .before .before .before .before .loop .at) (now (c .before .before .before .before .before .before .before .before .args .s))) (c .before .before .before .annotation-line .result .size)
 one c = one-line (drop (c .before .before .before .before .before .before .loop .at) (now (c .before .before .before .before .before .before .before .before .args .s))) (c .before .before .before .annotation-line .result) (c .before .before .before .annotation-line .ensures .0) (not-false _ (c .before .if2 .left))
 
--- src/lib.rt:222:5
 loop-holds : tie.Need-loop-holds Inv-loop μ-loop
 loop-holds c =
     let a = c .before .args in
     let o = readAnnotations (drop (a .from) (now (a .s))) in
     (omega arith, omega arith, omega arith, passed-none o o (a .from - a .from) refl (omega arith))
 
--- src/lib.rt:224:50
 sub-t8 : tie.Need-sub-t8 Inv-loop μ-loop
 sub-t8 c = omega arith
 
--- src/lib.rt:224:13
 returns : tie.Need-returns Inv-loop μ-loop
 returns c =
     let a = c .before .before .before .before .args in
     let l = c .before .before .loop in
-    (ap (λ (j : ℕ). counted false j 0) (let q : l .at - a .from ≡ l .at - a .from + 0 = omega arith in q) ∙ lines-stuck (readAnnotations (drop (a .from) (now (a .s)))) (readUpTo readAnnotation (200 - l .k) (drop (l .at) (now (a .s)))) (l .k) (l .at - a .from) (l .inv .3) 0 (upTo-full readAnnotation (now (a .s)) (l .at) (200 - l .k) (omega arith) (omega arith)), omega arith)
+    (ap (λ (j : ℕ). counted false j 0) (let q : l .at - a .from ≡ l .at - a .from + 0 = omega arith in q) ∙ lines-stuck (readAnnotations (drop (a .from) (now (a .s)))) (readUpTo readAnnotation (200 - l .many) (drop (l .at) (now (a .s)))) (l .many) (l .at - a .from) (l .inv .3) 0 (upTo-full readAnnotation (now (a .s)) (l .at) (200 - l .many) (omega arith) (omega arith)), omega arith)
 
--- src/lib.rt:226:13
 annotation-line-requires : tie.Need-annotation-line-requires Inv-loop μ-loop
 annotation-line-requires c κs = omega arith
 
--- src/lib.rt:228:50
 sub-t9 : tie.Need-sub-t9 Inv-loop μ-loop
 sub-t9 c = omega arith
 
--- src/lib.rt:228:50
 add-t10 : tie.Need-add-t10 Inv-loop μ-loop
 add-t10 c = omega (arith, c .before .before .before .annotation-line .ensures .1)
 
--- src/lib.rt:228:13
 returns-2 : tie.Need-returns-2 Inv-loop μ-loop
 returns-2 c =
     let a = c .before .before .before .before .before .before .before .before .args in
     let l = c .before .before .before .before .before .before .loop in
     let r = c .before .before .before .annotation-line in
-    (lines-stuck (readAnnotations (drop (a .from) (now (a .s)))) (readUpTo readAnnotation (200 - l .k) (drop (l .at) (now (a .s)))) (l .k) (l .at - a .from) (l .inv .3) (r .result .size) (upTo-stuck readAnnotation (now (a .s)) (l .at) (200 - l .k) (r .result .size) (omega arith) (omega arith) (not-whole (readAnnotation (drop (l .at) (now (a .s)))) (r .result) (r .ensures .0) (not-true _ (c .before .if2 .taken)))), omega (arith, r .ensures .1))
+    (lines-stuck (readAnnotations (drop (a .from) (now (a .s)))) (readUpTo readAnnotation (200 - l .many) (drop (l .at) (now (a .s)))) (l .many) (l .at - a .from) (l .inv .3) (r .result .size) (upTo-stuck readAnnotation (now (a .s)) (l .at) (200 - l .many) (r .result .size) (omega arith) (omega arith) (not-whole (readAnnotation (drop (l .at) (now (a .s)))) (r .result) (r .ensures .0) (not-true _ (c .before .if2 .taken)))), omega (arith, r .ensures .1))
 
--- src/lib.rt:230:9
 add-at : tie.Need-add-at Inv-loop μ-loop
 add-at c = omega (arith, c .before .before .before .annotation-line .ensures .1)
 
--- src/lib.rt:231:9
-add-k : tie.Need-add-k Inv-loop μ-loop
-add-k c = omega arith
+add-many : tie.Need-add-many Inv-loop μ-loop
+add-many c = omega arith
 
--- src/lib.rt:222:5
 loop-less : tie.Need-loop-less Inv-loop μ-loop
 loop-less c = omega (arith, one c .some, c .before .before .before .annotation-line .ensures .1)
 
--- src/lib.rt:222:5
 loop-again : tie.Need-loop-again Inv-loop μ-loop
 loop-again c =
     let a = c .before .before .before .before .before .before .before .before .args in
@@ -90,20 +80,18 @@ loop-again c =
       omega arith,
       r .ensures .1,
       omega arith,
-      passed-more o (l .k) (l .at - a .from) (readUpTo readAnnotation (200 - l .k) (drop (l .at) (now (a .s)))) (l .inv .3) (one c .value) n (readUpTo readAnnotation (200 - (l .k + 1)) (drop (l .at + n) (now (a .s)))) (l .at + n - a .from) (omega arith)
-          (upTo-more readAnnotation (now (a .s)) (l .at) (200 - l .k) (one c .value) n (omega arith) (omega arith) (one c .here) ∙ ap (λ (j : ℕ). ahead (one c .value ∷ []) n (readUpTo readAnnotation j (drop (l .at + n) (now (a .s))))) (let q : 200 - l .k - 1 ≡ 200 - (l .k + 1) = omega arith in q)),
+      passed-more o (l .many) (l .at - a .from) (readUpTo readAnnotation (200 - l .many) (drop (l .at) (now (a .s)))) (l .inv .3) (one c .value) n (readUpTo readAnnotation (200 - (l .many + 1)) (drop (l .at + n) (now (a .s)))) (l .at + n - a .from) (omega arith)
+          (upTo-more readAnnotation (now (a .s)) (l .at) (200 - l .many) (one c .value) n (omega arith) (omega arith) (one c .here) ∙ ap (λ (j : ℕ). ahead (one c .value ∷ []) n (readUpTo readAnnotation j (drop (l .at + n) (now (a .s))))) (let q : 200 - l .many - 1 ≡ 200 - (l .many + 1) = omega arith in q)),
     )
 
--- src/lib.rt:233:34
 sub-t11 : tie.Need-sub-t11 Inv-loop μ-loop
 sub-t11 c = omega arith
 
--- src/lib.rt:215:1
 returns-3 : tie.Need-returns-3 Inv-loop μ-loop
 returns-3 c =
     let a = c .before .before .before .args in
     let l = c .before .loop in
-    (lines-all (readAnnotations (drop (a .from) (now (a .s)))) (readUpTo readAnnotation (200 - l .k) (drop (l .at) (now (a .s)))) (l .k) (l .at - a .from) (l .inv .3) (upTo-end readAnnotation (now (a .s)) (l .at) (200 - l .k) (omega arith)), omega arith)
+    (lines-all (readAnnotations (drop (a .from) (now (a .s)))) (readUpTo readAnnotation (200 - l .many) (drop (l .at) (now (a .s)))) (l .many) (l .at - a .from) (l .inv .3) (upTo-end readAnnotation (now (a .s)) (l .at) (200 - l .many) (omega arith)), omega arith)
 
 pub annotation-lines-spec : {M : Type 1} → statement M
 annotation-lines-spec =
@@ -119,7 +107,7 @@ annotation-lines-spec =
     add-t10
     returns-2
     add-at
-    add-k
+    add-many
     loop-less
     loop-again
     sub-t11

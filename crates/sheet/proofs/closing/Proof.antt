@@ -1,29 +1,26 @@
+-- `closing`: the line end after a number.
 use native.Mathlib.Omega.{arith}
+use borrow.Author.Needs.{needs}
 use denote.Ref.{now}
 use Rattle.sheet.proofs.Counting.{closing-end, closing-got, closing-off}
-use borrow.Author.Needs.{needs}
 use Rattle.sheet.proofs.closing.Statement.{statement}
 use Rattle.sheet.proofs.closing.Tie as tie
 use Rattle.sheet.proofs.closing.Reads as reads
 use Rattle.sheet.proofs.closing.Lts as lts
 
--- src/lib.rt:268:9
 returns : tie.Need-returns
 returns c =
     let a = c .before .args in
     (closing-end (now (a .s)) (a .at) (a .v) (c .if1 .taken), omega arith)
 
--- src/lib.rt:270:8
 shared-slice-read-if2 : tie.Need-shared-slice-read-if2
 shared-slice-read-if2 c = search needs
 
--- src/lib.rt:271:9
 returns-2 : tie.Need-returns-2
 returns-2 c =
     let a = c .before .before .before .args in
     (closing-got (now (a .s)) (a .at) (a .v) (omega arith) (c .if2 .taken), omega arith)
 
--- src/lib.rt:263:1
 returns-3 : tie.Need-returns-3
 returns-3 c =
     let a = c .before .before .before .args in

@@ -1,5 +1,6 @@
-use native.Mathlib.Omega.{arith}
+-- `common_bytes`: the bytes of a key: the count goes up byte by byte.
 use Prim.Native.Nat.{_+_, _-_, _≤_}
+use native.Mathlib.Omega.{arith}
 use mathlib.Core.Path.{_≡_}
 use lib.ListN.{length, drop}
 use denote.Ref.{now}
@@ -16,56 +17,45 @@ Inv-loop s at key n₀ n = (n ≤ length key) × (at + n ≤ length s) × (commo
 abbrev μ-loop : tie.MeasureT-loop
 μ-loop s at key n₀ n = length key - n
 
--- src/lib.rt:103:5
 loop-holds : tie.Need-loop-holds Inv-loop μ-loop
 loop-holds c = (omega arith, omega arith, common-start (now (c .args .key)) (now (c .args .s)) (c .args .at))
 
--- src/lib.rt:104:12
 sub-if1 : tie.Need-sub-if1 Inv-loop μ-loop
 sub-if1 c = omega arith
 
--- src/lib.rt:105:13
 returns : tie.Need-returns Inv-loop μ-loop
 returns c =
     let l = c .before .before .loop in
     let a = c .before .before .before .args in
     (omega (arith, l .inv .2, common-end (now (a .key)) (now (a .s)) (l .n) (a .at) (omega arith) (omega arith)), (omega arith, omega arith))
 
--- src/lib.rt:107:14
 add-if2 : tie.Need-add-if2 Inv-loop μ-loop
 add-if2 c = omega arith
 
--- src/lib.rt:107:12
 shared-slice-read-if2 : tie.Need-shared-slice-read-if2 Inv-loop μ-loop
 shared-slice-read-if2 c = omega arith
 
--- src/lib.rt:107:25
 shared-slice-read-if2-2 : tie.Need-shared-slice-read-if2-2 Inv-loop μ-loop
 shared-slice-read-if2-2 c = omega arith
 
--- src/lib.rt:108:13
 returns-2 : tie.Need-returns-2 Inv-loop μ-loop
 returns-2 c =
     let l = c .before .before .before .before .before .loop in
     let a = c .before .before .before .before .before .before .args in
     (omega (arith, l .inv .2, common-off (now (a .key)) (now (a .s)) (l .n) (a .at) (omega arith) (omega arith) (c .if2 .taken)), (omega arith, omega arith))
 
--- src/lib.rt:110:9
 add-n : tie.Need-add-n Inv-loop μ-loop
 add-n c = omega arith
 
--- src/lib.rt:103:5
 loop-less : tie.Need-loop-less Inv-loop μ-loop
 loop-less c = omega arith
 
--- src/lib.rt:103:5
 loop-again : tie.Need-loop-again Inv-loop μ-loop
 loop-again c =
     let l = c .before .before .before .before .before .loop in
     let a = c .before .before .before .before .before .before .args in
     (omega arith, omega arith, omega (arith, l .inv .2, common-more (now (a .key)) (now (a .s)) (l .n) (a .at) (omega arith) (omega arith) (c .if2 .left)))
 
--- src/lib.rt:97:1
 returns-3 : tie.Need-returns-3 Inv-loop μ-loop
 returns-3 c =
     let l = c .before .loop in

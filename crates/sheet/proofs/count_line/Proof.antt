@@ -1,10 +1,11 @@
+-- `count_line`: the line with the number of writes.
 use native.Mathlib.Omega.{arith}
-use denote.Ref.{now}
 use mathlib.Core.List.{_++_}
+use borrow.Author.Needs.{needs}
+use denote.Ref.{now}
 use Rattle.sheet.specs.Sheet.{writesWord, eq}
 use Rattle.sheet.specs.Read.{readNumber}
 use Rattle.sheet.proofs.Counting.{led-count-short, led-count}
-use borrow.Author.Needs.{needs}
 use Rattle.sheet.proofs.count_line.Statement.{statement}
 use Rattle.sheet.proofs.count_line.Tie as tie
 use Rattle.sheet.proofs.count_line.Reads as reads
@@ -12,34 +13,27 @@ use Rattle.sheet.proofs.count_line.Lts as lts
 use Rattle.sheet.proofs.common_bytes.Reads as common-bytes-reads
 use Rattle.sheet.proofs.write_number.Reads as write-number-reads
 
--- src/lib.rt:326:33
 slice-aggregate-common-bytes : tie.Need-slice-aggregate-common-bytes
 slice-aggregate-common-bytes c = search needs
 
--- src/lib.rt:326:9
 common-bytes-requires : tie.Need-common-bytes-requires
 common-bytes-requires c κs = search needs
 
--- src/lib.rt:328:9
 returns : tie.Need-returns
 returns c =
     let a = c .before .before .before .before .args in
     let r = c .before .common-bytes in
     (led-count-short (writesWord ++ eq) (now (a .s)) (a .at) (r .result) (r .ensures .0) readNumber (c .if1 .taken), omega (arith, r .ensures .1 .1))
 
--- src/lib.rt:330:34
 add-write-number : tie.Need-add-write-number
 add-write-number c = search needs
 
--- src/lib.rt:330:9
 write-number-requires : tie.Need-write-number-requires
 write-number-requires c κs = search needs
 
--- src/lib.rt:331:42
 add-t9 : tie.Need-add-t9
 add-t9 c = search needs
 
--- src/lib.rt:321:1
 returns-2 : tie.Need-returns-2
 returns-2 c =
     let a = c .before .before .before .before .before .before .args in

@@ -1,15 +1,16 @@
-use native.Mathlib.Omega.{arith}
-use denote.Ref.{now}
+-- `deed`: the deed as a part.
 use Prim.Native.Nat.{_+_, _-_, _≤_}
+use native.Mathlib.Omega.{arith}
 use mathlib.Core.Path.{refl, sym, _∙_, ap}
 use mathlib.Core.Bool.{Bool}
+use borrow.Author.Needs.{needs}
 use lib.ListN.{length}
+use denote.Ref.{now}
 use Rattle.paper.specs.Choose.{choose}
 use Rattle.sheet.specs.Sheet.{Fields}
 use Rattle.sheet.specs.Read.{readLines, readSheet}
 use Rattle.sheet.specs.Given.{fieldsIn, deedFrom}
 use Rattle.sheet.proofs.Parts.{WholeGiven, whole-given, broken-given, deed-at, deed-within, part-move}
-use borrow.Author.Needs.{needs}
 use Rattle.sheet.proofs.deed.Statement.{statement}
 use Rattle.sheet.proofs.deed.Tie as tie
 use Rattle.sheet.proofs.deed.Reads as reads
@@ -23,27 +24,21 @@ found c = whole-given (readLines (now (c .before .before .before .before .args .
 inside : (c : tie.After-struct-known) → 5 + c .before .before .survey .result .deed ≤ length (now (c .before .before .before .before .args .sheet))
 inside c = let g = found c in omega (arith, deed-within (now (c .before .before .before .before .args .sheet)) (g .is-got), g .deed)
 
--- src/lib.rt:474:9
 survey-requires : tie.Need-survey-requires
 survey-requires c κs = search needs
 
--- src/lib.rt:476:19
 add-end : tie.Need-add-end
 add-end c = omega (arith, inside c)
 
--- src/lib.rt:477:16
 sub-result : tie.Need-sub-result
 sub-result c = search needs
 
--- src/lib.rt:477:16
 part-result-start : tie.Need-part-result-start
 part-result-start c = search needs
 
--- src/lib.rt:477:16
 part-result-end : tie.Need-part-result-end
 part-result-end c = omega (arith, inside c)
 
--- src/lib.rt:477:9
 returns : tie.Need-returns
 returns c =
     let s = now (c .before .before .before .before .before .args .sheet) in
@@ -51,11 +46,9 @@ returns c =
     let g = found k in
     part-move 5 (5 + c .before .before .before .survey .result .deed - 5) (deedFrom s) (length (fieldsIn s .deed)) (deed-at s (g .is-got)) (sym (g .deed) ∙ omega arith) (record { bytes = refl; block = refl; offset = refl })
 
--- src/lib.rt:479:5
 slice-aggregate-result : tie.Need-slice-aggregate-result
 slice-aggregate-result c = search needs
 
--- src/lib.rt:471:1
 returns-2 : tie.Need-returns-2
 returns-2 c =
     let s = now (c .before .before .before .before .args .sheet) in

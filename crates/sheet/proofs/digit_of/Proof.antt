@@ -1,32 +1,27 @@
+-- `digit_of`: the number of a hex digit.
 use borrow.Author.Tests.{lt-ltb, le-ltb}
-use Rattle.text.proofs.Hexes.{lowest}
 use borrow.Author.Needs.{needs}
+use Rattle.text.proofs.Hexes.{lowest}
 use Rattle.sheet.proofs.digit_of.Statement.{statement}
 use Rattle.sheet.proofs.digit_of.Tie as tie
 use Rattle.sheet.proofs.digit_of.Reads as reads
 use Rattle.sheet.proofs.digit_of.Lts as lts
 
--- src/lib.rt:242:17
 sub-result : tie.Need-sub-result
 sub-result c = lowest (c .before .args .b) (c .before .pre)
 
--- src/lib.rt:242:16
 cast-result : tie.Need-cast-result
 cast-result c = search needs
 
--- src/lib.rt:242:9
 returns : tie.Need-returns
 returns c = rw (lt-ltb (c .before .args .b) 58 (c .if1 .taken))
 
--- src/lib.rt:244:6
 sub-result-2 : tie.Need-sub-result-2
 sub-result-2 c = search needs
 
--- src/lib.rt:244:5
 cast-result-2 : tie.Need-cast-result-2
 cast-result-2 c = search needs
 
--- src/lib.rt:237:1
 returns-2 : tie.Need-returns-2
 returns-2 c = rw (le-ltb (c .before .args .b) 58 (c .if1 .left))
 

@@ -1,12 +1,13 @@
-use native.Mathlib.Omega.{arith}
-use denote.Ref.{now}
-use lib.Seq.{length-take-le}
-use Rattle.text.proofs.Hexes.{hex-byte, value-more, value-all, bound-more, bound-four}
-use Rattle.sheet.proofs.Fields.{digit-at}
+-- `hex_value`: the number of hex digits, digit by digit.
 use Prim.Native.Nat.{ℕ, _+_, _-_, _*_, _^_, _≤_, _<_}
+use native.Mathlib.Omega.{arith}
 use mathlib.Core.Path.{_≡_, refl, sym, _∙_, ap, subst}
+use lib.Seq.{length-take-le}
 use lib.ListN.{take, drop, getD, length-drop}
+use denote.Ref.{now}
+use Rattle.text.proofs.Hexes.{hex-byte, value-more, value-all, bound-more, bound-four}
 use Rattle.text.specs.Hex.{hexFrom, hexValue, unhex}
+use Rattle.sheet.proofs.Fields.{digit-at}
 use Rattle.sheet.proofs.hex_value.Statement.{statement}
 use Rattle.sheet.proofs.hex_value.Tie as tie
 use Rattle.sheet.proofs.hex_value.Reads as reads
@@ -27,41 +28,32 @@ digit-lt c =
     let b = digit-at (now (a .s)) (a .at) (a .n) (c .before .before .before .loop .i) (omega arith) (omega arith) (c .before .before .before .before .before .pre .1) .1 in
     subst (λ (x : ℕ). x < 16) (sym (c .digit-of .ensures)) (hex-byte (getD (now (a .s)) (a .at + c .before .before .before .loop .i) 0) b .0)
 
--- src/lib.rt:255:5
 loop-holds : tie.Need-loop-holds Inv-loop μ-loop
 loop-holds c = (omega arith, omega arith, refl)
 
--- src/lib.rt:256:13
 mul-v : tie.Need-mul-v Inv-loop μ-loop
 mul-v c = omega (arith, bound-four (c .before .loop .v) (c .before .loop .i) (omega arith) (c .before .loop .inv .1))
 
--- src/lib.rt:256:33
 add-digit-of : tie.Need-add-digit-of Inv-loop μ-loop
 add-digit-of c = omega arith
 
--- src/lib.rt:256:31
 shared-slice-read-digit-of : tie.Need-shared-slice-read-digit-of Inv-loop μ-loop
 shared-slice-read-digit-of c = omega arith
 
--- src/lib.rt:256:22
 digit-of-requires : tie.Need-digit-of-requires Inv-loop μ-loop
 digit-of-requires c κs =
     let a = c .before .before .before .before .args in
     digit-at (now (a .s)) (a .at) (a .n) (c .before .before .loop .i) (omega arith) (omega arith) (c .before .before .before .before .pre .1) .1
 
--- src/lib.rt:256:13
 add-v : tie.Need-add-v Inv-loop μ-loop
 add-v c = omega (arith, digit-lt c, bound-four (c .before .before .before .loop .v) (c .before .before .before .loop .i) (omega arith) (c .before .before .before .loop .inv .1))
 
--- src/lib.rt:257:9
 add-i : tie.Need-add-i Inv-loop μ-loop
 add-i c = omega arith
 
--- src/lib.rt:255:5
 loop-less : tie.Need-loop-less Inv-loop μ-loop
 loop-less c = omega arith
 
--- src/lib.rt:255:5
 loop-again : tie.Need-loop-again Inv-loop μ-loop
 loop-again c =
     let a = c .before .before .before .before .before .args in
@@ -73,7 +65,6 @@ loop-again c =
       ap (λ (x : ℕ). hexFrom (16 * l .v + x) (drop (l .i + 1) w)) (c .digit-of .ensures ∙ ap unhex (d .0)) ∙ sym (value-more w (l .i) (l .v) (omega (arith, d .2))) ∙ l .inv .2,
     )
 
--- src/lib.rt:248:1
 returns : tie.Need-returns Inv-loop μ-loop
 returns c =
     let a = c .before .before .before .args in

@@ -1,8 +1,9 @@
-use native.Mathlib.Omega.{arith}
+-- `is_more`: whether a second digit is read.
 use Prim.Native.Nat.{_≤_}
+use native.Mathlib.Omega.{arith}
 use mathlib.Core.Path.{sym, _∙_}
-use Rattle.text.proofs.Tests.{between-le}
 use borrow.Author.Needs.{needs}
+use Rattle.text.proofs.Tests.{between-le}
 use Rattle.sheet.proofs.is_more.Statement.{statement}
 use Rattle.sheet.proofs.is_more.Tie as tie
 use Rattle.sheet.proofs.is_more.Reads as reads
@@ -13,27 +14,21 @@ use Rattle.sheet.proofs.within.Reads as within-reads
 digits : (c : tie.Then1) → (48 ≤ c .before .before .args .c) × (c .before .before .args .c ≤ 57)
 digits c = between-le 48 57 (c .before .before .args .c) (sym (c .before .within .ensures) ∙ c .if1 .taken)
 
--- src/lib.rt:281:8
 within-requires : tie.Need-within-requires
 within-requires c κs = search needs
 
--- src/lib.rt:282:28
 mul-result : tie.Need-mul-result
 mul-result c = search needs
 
--- src/lib.rt:282:38
 sub-result : tie.Need-sub-result
 sub-result c = digits c .0
 
--- src/lib.rt:282:28
 add-result : tie.Need-add-result
 add-result c = omega (arith, digits c)
 
--- src/lib.rt:282:9
 returns : tie.Need-returns
 returns c = rw (sym (c .before .within .ensures), c .if1 .taken)
 
--- src/lib.rt:277:1
 returns-2 : tie.Need-returns-2
 returns-2 c = rw (sym (c .before .within .ensures), c .if1 .left)
 

@@ -1,10 +1,11 @@
+-- `keyed_line`: a line with a key: the key, then the closed run after it.
 use native.Mathlib.Omega.{arith}
-use denote.Ref.{now}
 use mathlib.Core.Path.{sym, ap}
+use borrow.Author.Needs.{needs}
+use denote.Ref.{now}
 use Rattle.text.specs.Combine.{readClosed}
 use Rattle.sheet.specs.Steps.{classOf, stepOf}
 use Rattle.sheet.proofs.Stepped.{led-short, led-step}
-use borrow.Author.Needs.{needs}
 use Rattle.sheet.proofs.keyed_line.Statement.{statement}
 use Rattle.sheet.proofs.keyed_line.Tie as tie
 use Rattle.sheet.proofs.keyed_line.Reads as reads
@@ -12,30 +13,24 @@ use Rattle.sheet.proofs.keyed_line.Lts as lts
 use Rattle.sheet.proofs.closed_run.Reads as closed-run-reads
 use Rattle.sheet.proofs.common_bytes.Reads as common-bytes-reads
 
--- src/lib.rt:166:9
 common-bytes-requires : tie.Need-common-bytes-requires
 common-bytes-requires c κs = search needs
 
--- src/lib.rt:168:9
 returns : tie.Need-returns
 returns c =
     let a = c .before .before .before .before .args in
     let r = c .before .common-bytes in
     (sym (ap stepOf (led-short (now (a .key)) (now (a .s)) (a .at) (r .result) (r .ensures .0) (readClosed (classOf (a .class)) (a .lo) (a .hi) 10) (c .if1 .taken))), omega (arith, r .ensures .1 .1))
 
--- src/lib.rt:170:31
 add-closed-run : tie.Need-add-closed-run
 add-closed-run c = search needs
 
--- src/lib.rt:170:9
 closed-run-requires : tie.Need-closed-run-requires
 closed-run-requires c κs = search needs
 
--- src/lib.rt:171:38
 add-t9 : tie.Need-add-t9
 add-t9 c = omega (arith, c .before .before .before .common-bytes .ensures .1 .1, c .before .closed-run .ensures .1)
 
--- src/lib.rt:161:1
 returns-2 : tie.Need-returns-2
 returns-2 c =
     let a = c .before .before .before .before .before .before .args in

@@ -1,14 +1,15 @@
-use borrow.Author.Needs.{needs}
-use native.Mathlib.Omega.{arith}
+-- `run`: a span of a class: the count goes up byte by byte.
 use Prim.Native.Nat.{_+_, _-_, _≤_}
+use native.Mathlib.Omega.{arith}
 use mathlib.Core.Path.{_≡_, sym, _∙_}
+use mathlib.Core.Bool.{true, false}
+use borrow.Author.Needs.{needs}
+use borrow.Author.Tests.{not-true, not-false}
 use lib.ListN.{length, drop, getD}
 use denote.Ref.{now}
-use borrow.Author.Tests.{not-true, not-false}
-use mathlib.Core.Bool.{true, false}
 use Rattle.text.specs.Combine.{span}
-use Rattle.sheet.specs.Steps.{classOf}
 use Rattle.text.proofs.Scans.{span-over, span-end, span-off, span-more, span-start}
+use Rattle.sheet.specs.Steps.{classOf}
 use Rattle.sheet.proofs.run.Statement.{statement}
 use Rattle.sheet.proofs.run.Tie as tie
 use Rattle.sheet.proofs.run.Reads as reads
@@ -21,36 +22,29 @@ Inv-loop s at class most n₀ n = (at + n ≤ length s) × (span (classOf class)
 abbrev μ-loop : tie.MeasureT-loop
 μ-loop s at class most n₀ n = most - n
 
--- src/lib.rt:60:5
 loop-holds : tie.Need-loop-holds Inv-loop μ-loop
 loop-holds c =
     let a = c .before .args in
     (omega arith, span-start (classOf (a .class)) (a .most) (a .at) (now (a .s)))
 
--- src/lib.rt:61:12
 sub-if1 : tie.Need-sub-if1 Inv-loop μ-loop
 sub-if1 c = omega arith
 
--- src/lib.rt:62:13
 returns : tie.Need-returns Inv-loop μ-loop
 returns c =
     let l = c .before .before .loop in
     let a = c .before .before .before .before .args in
     (omega (arith, l .inv .1, span-end (classOf (a .class)) (a .most) (l .n) (a .at) (now (a .s)) (omega arith)), omega arith)
 
--- src/lib.rt:64:30
 add-in-class : tie.Need-add-in-class Inv-loop μ-loop
 add-in-class c = omega arith
 
--- src/lib.rt:64:28
 shared-slice-read-in-class : tie.Need-shared-slice-read-in-class Inv-loop μ-loop
 shared-slice-read-in-class c = omega arith
 
--- src/lib.rt:64:13
 in-class-requires : tie.Need-in-class-requires Inv-loop μ-loop
 in-class-requires c κs = search needs
 
--- src/lib.rt:65:13
 returns-2 : tie.Need-returns-2 Inv-loop μ-loop
 returns-2 c =
     let l = c .before .before .before .before .before .loop in
@@ -58,15 +52,12 @@ returns-2 c =
     let e : classOf (a .class) (getD (now (a .s)) (a .at + l .n) 0) ≡ false = sym (c .before .in-class .ensures) ∙ not-true _ (c .if2 .taken) in
     (omega (arith, l .inv .1, span-off (classOf (a .class)) (a .most) (l .n) (a .at) (now (a .s)) (omega arith) (omega arith) e), omega arith)
 
--- src/lib.rt:67:9
 add-n : tie.Need-add-n Inv-loop μ-loop
 add-n c = omega arith
 
--- src/lib.rt:60:5
 loop-less : tie.Need-loop-less Inv-loop μ-loop
 loop-less c = omega arith
 
--- src/lib.rt:60:5
 loop-again : tie.Need-loop-again Inv-loop μ-loop
 loop-again c =
     let l = c .before .before .before .before .before .loop in
@@ -74,7 +65,6 @@ loop-again c =
     let e : classOf (a .class) (getD (now (a .s)) (a .at + l .n) 0) ≡ true = sym (c .before .in-class .ensures) ∙ not-false _ (c .if2 .left) in
     (omega arith, omega (arith, l .inv .1, span-more (classOf (a .class)) (a .most) (l .n) (a .at) (now (a .s)) (omega arith) (omega arith) e))
 
--- src/lib.rt:54:1
 returns-3 : tie.Need-returns-3 Inv-loop μ-loop
 returns-3 c =
     let l = c .before .loop in

@@ -1,11 +1,12 @@
-use native.Mathlib.Omega.{arith}
-use denote.Ref.{now}
+-- `second_digit`: what follows the first digit.
 use Prim.Native.Nat.{_≤_}
+use native.Mathlib.Omega.{arith}
 use mathlib.Core.Path.{sym, _∙_}
+use borrow.Author.Needs.{needs}
 use lib.ListN.{getD}
+use denote.Ref.{now}
 use Rattle.sheet.proofs.Numbers.{more-le}
 use Rattle.sheet.proofs.Counting.{second-end, second-more, second-less}
-use borrow.Author.Needs.{needs}
 use Rattle.sheet.proofs.second_digit.Statement.{statement}
 use Rattle.sheet.proofs.second_digit.Tie as tie
 use Rattle.sheet.proofs.second_digit.Reads as reads
@@ -20,56 +21,44 @@ digits c =
     let m = more-le (a .d) (getD (now (a .s)) (a .at) 0) (sym (c .before .is-more .ensures) ∙ c .if2 .taken) in
     (m .0, m .1)
 
--- src/lib.rt:293:9
 returns : tie.Need-returns
 returns c =
     let a = c .before .before .args in
     (second-end (now (a .s)) (a .at) (a .d) (c .if1 .taken), omega arith)
 
--- src/lib.rt:295:13
 shared-slice-read-c : tie.Need-shared-slice-read-c
 shared-slice-read-c c = search needs
 
--- src/lib.rt:296:8
 is-more-requires : tie.Need-is-more-requires
 is-more-requires c κs = search needs
 
--- src/lib.rt:297:30
 add-closing : tie.Need-add-closing
 add-closing c = search needs
 
--- src/lib.rt:297:38
 mul-closing : tie.Need-mul-closing
 mul-closing c = search needs
 
--- src/lib.rt:297:48
 sub-closing : tie.Need-sub-closing
 sub-closing c = digits c .0
 
--- src/lib.rt:297:38
 add-closing-2 : tie.Need-add-closing-2
 add-closing-2 c = omega (arith, digits c)
 
--- src/lib.rt:297:13
 closing-requires : tie.Need-closing-requires
 closing-requires c κs = search needs
 
--- src/lib.rt:298:50
 add-t11 : tie.Need-add-t11
 add-t11 c = omega (arith, c .before .closing .ensures .1)
 
--- src/lib.rt:298:9
 returns-2 : tie.Need-returns-2
 returns-2 c =
     let a = c .before .before .before .before .before .before .before .args in
     let end = c .before .closing in
     (second-more (now (a .s)) (a .at) (a .d) (omega arith) (sym (c .before .before .before .is-more .ensures) ∙ c .before .before .if2 .taken) (end .result) (end .ensures .0), omega (arith, end .ensures .1))
 
--- src/lib.rt:300:5
 closing-requires-2 : tie.Need-closing-requires-2
 closing-requires-2 c κs = search needs
 
--- src/lib.rt:288:1
 returns-3 : tie.Need-returns-3
 returns-3 c =
     let a = c .before .before .before .before .before .before .args in

@@ -1,11 +1,13 @@
-use native.Mathlib.Omega.{arith}
-use denote.Ref.{now}
+-- `survey`: one pass over a sheet, line by line.
 use Prim.Native.Nat.{ℕ, _+_, _^_, _<_}
+use native.Mathlib.Omega.{arith}
 use mathlib.Core.Path.{refl, sym, _∙_, ap, subst}
 use mathlib.Core.List.{_++_}
 use borrow.Author.Tests.{not-true, not-false}
+use borrow.Author.Needs.{needs}
 use lib.ListN.{length, take, drop, length-drop}
 use lib.Seq.{length-take-le}
+use denote.Ref.{now}
 use Rattle.text.specs.Code.{got}
 use Rattle.text.specs.Combine.{readTimes}
 use Rattle.text.specs.Hex.{hexValue}
@@ -18,7 +20,6 @@ use Rattle.sheet.proofs.Counting.{counted-got, counted-stuck}
 use Rattle.sheet.proofs.Written.{written-got, written-stuck}
 use Rattle.sheet.proofs.Fields.{field, hex-field, hex-stuck}
 use Rattle.sheet.proofs.Surveyed.{DeedAt, PinsAt, CountAt, WritesAt, count-most, stuck-deed, stuck-pins, stuck-count, stuck-writes, stuck-annotations, outlined}
-use borrow.Author.Needs.{needs}
 use Rattle.sheet.proofs.survey.Statement.{statement}
 use Rattle.sheet.proofs.survey.Tie as tie
 use Rattle.sheet.proofs.survey.Reads as reads
@@ -53,127 +54,99 @@ writes-at c =
     let g = written-got (readTimes readAt (c .before .before .before .before .before .before .count-line .result .count) (drop ((c .before .before .before .before .before .before .before .before .before .before .before .before .before .before .keyed-line .result .size) + (c .before .before .before .before .before .before .before .before .before .before .keyed-line2 .result .size) + (c .before .before .before .before .before .before .count-line .result .size)) (now (c .before .before .before .before .before .before .before .before .before .before .before .before .before .before .before .before .before .args .s)))) (r .result) (r .ensures .0) (not-false _ (c .if4 .left)) in
     record { before = count-at (c .before .before .before .before); list = g .0; here = g .1; holds = g .2 }
 
--- src/lib.rt:379:33
 slice-aggregate-keyed-line : tie.Need-slice-aggregate-keyed-line
 slice-aggregate-keyed-line c = search needs
 
--- src/lib.rt:379:9
 keyed-line-requires : tie.Need-keyed-line-requires
 keyed-line-requires c κs = search needs
 
--- src/lib.rt:381:9
 broken-requires : tie.Need-broken-requires
 broken-requires c κs = search needs
 
--- src/lib.rt:381:9
 returns : tie.Need-returns
 returns c =
     let r = c .before .before .before .keyed-line in
     c .broken .ensures ∙ sym (ap outlineOf (stuck-deed (now (c .before .before .before .before .before .before .args .s)) (c .before .before .before .keyed-line .result .size) (not-whole (readDeed (now (c .before .before .before .before .before .before .args .s))) (r .result) (r .ensures .0) (not-true _ (c .before .if1 .taken)))))
 
--- src/lib.rt:384:39
 slice-aggregate-keyed-line-2 : tie.Need-slice-aggregate-keyed-line-2
 slice-aggregate-keyed-line-2 c = search needs
 
--- src/lib.rt:384:9
 keyed-line-requires-2 : tie.Need-keyed-line-requires-2
 keyed-line-requires-2 c κs = search needs
 
--- src/lib.rt:386:23
 add-broken : tie.Need-add-broken
 add-broken c = search needs
 
--- src/lib.rt:386:9
 broken-requires-2 : tie.Need-broken-requires-2
 broken-requires-2 c κs = search needs
 
--- src/lib.rt:386:9
 returns-2 : tie.Need-returns-2
 returns-2 c =
     let r = c .before .before .before .before .keyed-line2 in
     c .broken2 .ensures ∙ sym (ap outlineOf (stuck-pins (now (c .before .before .before .before .before .before .before .before .before .before .before .args .s)) (c .before .before .before .before .before .before .before .before .keyed-line .result .size) (c .before .before .before .before .keyed-line2 .result .size) (deed-at (c .before .before .before .before .before .before)) (hex-stuck (pinsWord ++ eq) 2 (now (c .before .before .before .before .before .before .before .before .before .before .before .args .s)) (c .before .before .before .before .before .before .before .before .keyed-line .result .size) (r .result) (r .ensures .0) (not-true _ (c .before .before .if2 .taken)))))
 
--- src/lib.rt:388:20
 add-count-at : tie.Need-add-count-at
 add-count-at c = search needs
 
--- src/lib.rt:389:9
 count-line-requires : tie.Need-count-line-requires
 count-line-requires c κs = search needs
 
--- src/lib.rt:391:23
 add-broken-2 : tie.Need-add-broken-2
 add-broken-2 c = search needs
 
--- src/lib.rt:391:9
 broken-requires-3 : tie.Need-broken-requires-3
 broken-requires-3 c κs = search needs
 
--- src/lib.rt:391:9
 returns-3 : tie.Need-returns-3
 returns-3 c =
     let r = c .before .before .before .before .count-line in
     c .broken3 .ensures ∙ sym (ap outlineOf (stuck-count (now (c .before .before .before .before .before .before .before .before .before .before .before .before .before .before .before .args .s)) (c .before .before .before .before .before .before .before .before .before .before .before .before .keyed-line .result .size) (c .before .before .before .before .before .before .before .before .keyed-line2 .result .size) 0 (r .result .size) (pins-at (c .before .before .before .before .before .before)) (counted-stuck (λ (n : ℕ). n) (readCount (drop ((c .before .before .before .before .before .before .before .before .before .before .before .before .keyed-line .result .size) + (c .before .before .before .before .before .before .before .before .keyed-line2 .result .size)) (now (c .before .before .before .before .before .before .before .before .before .before .before .before .before .before .before .args .s)))) (r .result) (r .ensures .0) (not-true _ (c .before .before .if3 .taken)))))
 
--- src/lib.rt:393:21
 add-writes-at : tie.Need-add-writes-at
 add-writes-at c = search needs
 
--- src/lib.rt:394:9
 write-lines-requires : tie.Need-write-lines-requires
 write-lines-requires c κs = (omega (arith, c .before .before .before .count-line .ensures .1), count-most (now (c .before .before .before .before .before .before .before .before .before .before .before .before .before .before .args .s)) (c .before .before .before .before .before .before .before .before .before .before .before .keyed-line .result .size) (c .before .before .before .before .before .before .before .keyed-line2 .result .size) _ _ (count-at (c .before)))
 
--- src/lib.rt:396:23
 add-broken-3 : tie.Need-add-broken-3
 add-broken-3 c = omega (arith, short (c .before .before .before .before .before .before .before .before .before .before .before .before .before .before .before .before .before), c .before .before .before .write-lines .ensures .1)
 
--- src/lib.rt:396:9
 broken-requires-4 : tie.Need-broken-requires-4
 broken-requires-4 c κs = search needs
 
--- src/lib.rt:396:9
 returns-4 : tie.Need-returns-4
 returns-4 c =
     let r = c .before .before .before .before .write-lines in
     c .broken4 .ensures ∙ sym (ap outlineOf (stuck-writes (now (c .before .before .before .before .before .before .before .before .before .before .before .before .before .before .before .before .before .before .before .args .s)) (c .before .before .before .before .before .before .before .before .before .before .before .before .before .before .before .before .keyed-line .result .size) (c .before .before .before .before .before .before .before .before .before .before .before .before .keyed-line2 .result .size) (c .before .before .before .before .before .before .before .before .count-line .result .count) (c .before .before .before .before .before .before .before .before .count-line .result .size) (r .result .size) (count-at (c .before .before .before .before .before .before)) (written-stuck (readTimes readAt (c .before .before .before .before .before .before .before .before .count-line .result .count) (drop ((c .before .before .before .before .before .before .before .before .before .before .before .before .before .before .before .before .keyed-line .result .size) + (c .before .before .before .before .before .before .before .before .before .before .before .before .keyed-line2 .result .size) + (c .before .before .before .before .before .before .before .before .count-line .result .size)) (now (c .before .before .before .before .before .before .before .before .before .before .before .before .before .before .before .before .before .before .before .args .s)))) (r .result) (r .ensures .0) (not-true _ (c .before .before .if4 .taken)))))
 
--- src/lib.rt:398:16
 add-tail : tie.Need-add-tail
 add-tail c = omega (arith, short (c .before .before .before .before .before .before .before .before .before .before .before .before .before .before .before .before .before), c .before .before .before .write-lines .ensures .1)
 
--- src/lib.rt:399:9
 annotation-lines-requires : tie.Need-annotation-lines-requires
 annotation-lines-requires c κs = search needs
 
--- src/lib.rt:401:23
 add-broken-4 : tie.Need-add-broken-4
 add-broken-4 c = omega (arith, short (c .before .before .before .before .before .before .before .before .before .before .before .before .before .before .before .before .before .before .before .before .before), c .before .before .before .annotation-lines .ensures .1)
 
--- src/lib.rt:401:9
 broken-requires-5 : tie.Need-broken-requires-5
 broken-requires-5 c κs = search needs
 
--- src/lib.rt:401:9
 returns-5 : tie.Need-returns-5
 returns-5 c =
     let r = c .before .before .before .before .annotation-lines in
     c .broken5 .ensures ∙ sym (ap outlineOf (stuck-annotations (now (c .before .before .before .before .before .before .before .before .before .before .before .before .before .before .before .before .before .before .before .before .before .before .before .args .s)) (c .before .before .before .before .before .before .before .before .before .before .before .before .before .before .before .before .before .before .before .before .keyed-line .result .size) (c .before .before .before .before .before .before .before .before .before .before .before .before .before .before .before .before .keyed-line2 .result .size) (c .before .before .before .before .before .before .before .before .before .before .before .before .count-line .result .count) (c .before .before .before .before .before .before .before .before .before .before .before .before .count-line .result .size) (c .before .before .before .before .before .before .before .before .write-lines .result .writes) (c .before .before .before .before .before .before .before .before .write-lines .result .size) (writes-at (c .before .before .before .before .before .before)) (r .result .size) (counted-stuck length (readAnnotations (drop ((c .before .before .before .before .before .before .before .before .before .before .before .before .before .before .before .before .before .before .before .before .keyed-line .result .size) + (c .before .before .before .before .before .before .before .before .before .before .before .before .before .before .before .before .keyed-line2 .result .size) + (c .before .before .before .before .before .before .before .before .before .before .before .before .count-line .result .size) + (c .before .before .before .before .before .before .before .before .write-lines .result .size)) (now (c .before .before .before .before .before .before .before .before .before .before .before .before .before .before .before .before .before .before .before .before .before .before .before .args .s)))) (r .result) (r .ensures .0) (not-true _ (c .before .before .if5 .taken)))))
 
--- src/lib.rt:407:15
 sub-t24 : tie.Need-sub-t24
 sub-t24 c = omega (arith, deed-at (c .before .before .before .before .before .before .before .before .before .before .before .before .before .before .before .before .before .before) .long)
 
--- src/lib.rt:408:28
 add-hex-value : tie.Need-add-hex-value
 add-hex-value c = omega (arith, short (c .before .before .before .before .before .before .before .before .before .before .before .before .before .before .before .before .before .before .before .before .before .before), pins-at (c .before .before .before .before .before .before .before .before .before .before .before .before .before .before) .pins .long, c .before .before .before .before .before .before .before .before .before .before .before .before .before .before .before .before .keyed-line2 .ensures .1)
 
--- src/lib.rt:408:15
 hex-value-requires : tie.Need-hex-value-requires
 hex-value-requires c κs =
     let p = pins-at (c .before .before .before .before .before .before .before .before .before .before .before .before .before .before) .pins in
     ((omega arith, omega (arith, p .long, c .before .before .before .before .before .before .before .before .before .before .before .before .before .before .before .before .keyed-line2 .ensures .1)), p .digits)
 
--- src/lib.rt:408:15
 cast-t27 : tie.Need-cast-t27
 cast-t27 c =
     let s = (now (c .before .before .before .before .before .before .before .before .before .before .before .before .before .before .before .before .before .before .before .before .before .before .before .before .args .s)) in
@@ -182,7 +155,6 @@ cast-t27 c =
     let w = length-take-le 2 (drop (n + 5) s) (omega (arith, length-drop (n + 5) s, p .long, c .before .before .before .before .before .before .before .before .before .before .before .before .before .before .before .before .before .keyed-line2 .ensures .1)) in
     omega (arith, c .hex-value .ensures, subst (λ (k : ℕ). hexValue (take 2 (drop (n + 5) s)) < 16 ^ k) w (value-lt (take 2 (drop (n + 5) s)) (p .digits)))
 
--- src/lib.rt:376:1
 returns-6 : tie.Need-returns-6
 returns-6 c =
     let r = c .before .before .before .before .before .annotation-lines in

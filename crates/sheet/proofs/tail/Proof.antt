@@ -1,15 +1,16 @@
-use native.Mathlib.Omega.{arith}
-use denote.Ref.{now}
+-- `tail`: all annotation lines as a part.
 use Prim.Native.Nat.{_-_, _≤_}
+use native.Mathlib.Omega.{arith}
 use mathlib.Core.Path.{refl, sym, _∙_, ap}
 use mathlib.Core.Bool.{Bool}
+use borrow.Author.Needs.{needs}
 use lib.ListN.{length}
+use denote.Ref.{now}
 use Rattle.paper.specs.Choose.{choose}
 use Rattle.sheet.specs.Sheet.{Fields, front, lines}
 use Rattle.sheet.specs.Read.{readLines, readSheet}
 use Rattle.sheet.specs.Given.{fieldsIn, tailFrom}
 use Rattle.sheet.proofs.Parts.{WholeGiven, whole-given, broken-given, tail-at, tail-size, part-move}
-use borrow.Author.Needs.{needs}
 use Rattle.sheet.proofs.tail.Statement.{statement}
 use Rattle.sheet.proofs.tail.Tie as tie
 use Rattle.sheet.proofs.tail.Reads as reads
@@ -23,34 +24,27 @@ found c = whole-given (readLines (now (c .before .before .before .args .sheet)))
 inside : (c : tie.Then1) → c .before .survey .result .tail ≤ length (now (c .before .before .before .args .sheet))
 inside c = let g = found c in omega (arith, tail-size (now (c .before .before .before .args .sheet)) (g .is-got), tail-at (now (c .before .before .before .args .sheet)) (g .is-got), g .tail)
 
--- src/lib.rt:500:9
 survey-requires : tie.Need-survey-requires
 survey-requires c κs = search needs
 
--- src/lib.rt:503:16
 sub-result : tie.Need-sub-result
 sub-result c = inside c
 
--- src/lib.rt:503:16
 part-result-start : tie.Need-part-result-start
 part-result-start c = omega (arith, inside c)
 
--- src/lib.rt:503:16
 part-result-end : tie.Need-part-result-end
 part-result-end c = search needs
 
--- src/lib.rt:503:9
 returns : tie.Need-returns
 returns c =
     let s = now (c .before .before .before .before .args .sheet) in
     let g = found (c .before) in
     part-move (c .before .before .survey .result .tail) (length s - c .before .before .survey .result .tail) (tailFrom s) (length (lines (fieldsIn s .annotations))) (tail-at s (g .is-got) ∙ sym (g .tail)) (omega (arith, tail-size s (g .is-got), tail-at s (g .is-got), g .tail)) (record { bytes = refl; block = refl; offset = refl })
 
--- src/lib.rt:505:5
 slice-aggregate-result : tie.Need-slice-aggregate-result
 slice-aggregate-result c = search needs
 
--- src/lib.rt:497:1
 returns-2 : tie.Need-returns-2
 returns-2 c =
     let s = now (c .before .before .before .before .args .sheet) in

@@ -1,16 +1,17 @@
+-- `write_lines`: the lines with write addresses, one by one.
+use Prim.Native.Nat.{ℕ, _+_, _-_, _≤_}
 use native.Mathlib.Omega.{arith}
-use denote.Ref.{now}
 use mathlib.Core.List.{[], _∷_, _++_}
+use mathlib.Core.Path.{_≡_, refl, sym, _∙_, ap}
 use borrow.Author.Tests.{not-true, not-false}
+use lib.ListN.{length, drop}
+use denote.Ref.{now}
 use Rattle.text.specs.Code.{got}
 use Rattle.text.proofs.Passed.{ahead, times-end, times-stuck, times-more}
-use Rattle.sheet.specs.Sheet.{atWord, eq}
-use Rattle.sheet.proofs.Fields.{HexField, hex-field, hex-stuck}
-use Prim.Native.Nat.{ℕ, _+_, _-_, _≤_}
-use mathlib.Core.Path.{_≡_, refl, sym, _∙_, ap}
-use lib.ListN.{length, drop}
 use Rattle.text.specs.Combine.{readTimes}
+use Rattle.sheet.specs.Sheet.{atWord, eq}
 use Rattle.sheet.specs.Read.{readAt}
+use Rattle.sheet.proofs.Fields.{HexField, hex-field, hex-stuck}
 use Rattle.sheet.proofs.Written.{Filled, filled-none, filled-more, filled-all, filled-stuck}
 use Rattle.sheet.proofs.write_lines.Statement.{statement}
 use Rattle.sheet.proofs.write_lines.Tie as tie
@@ -30,30 +31,24 @@ abbrev μ-loop : tie.MeasureT-loop
 one : (c : tie.Else1 Inv-loop μ-loop) → HexField (atWord ++ eq) 4 (now (c .before .before .before .before .before .before .before .args .s)) (c .before .before .before .before .before .loop .at) (c .before .before .keyed-line .result .size)
 one c = hex-field (atWord ++ eq) 4 (now (c .before .before .before .before .before .before .before .args .s)) (c .before .before .before .before .before .loop .at) (c .before .before .keyed-line .result) (c .before .before .keyed-line .ensures .0) (not-false _ (c .if1 .left))
 
--- src/lib.rt:347:5
 loop-holds : tie.Need-loop-holds Inv-loop μ-loop
 loop-holds c =
     let a = c .before .args in
     let l = drop (a .from) (now (a .s)) in
     (omega arith, omega arith, omega arith, filled-none (readTimes readAt (a .count) l) (readTimes readAt (a .count - 0) l) (a .from - a .from) (ap (λ (j : ℕ). readTimes readAt j l) (let q : a .count ≡ a .count - 0 = omega arith in q)) (omega arith))
 
--- src/lib.rt:348:38
 slice-aggregate-keyed-line : tie.Need-slice-aggregate-keyed-line Inv-loop μ-loop
 slice-aggregate-keyed-line c = refl
 
--- src/lib.rt:348:13
 keyed-line-requires : tie.Need-keyed-line-requires Inv-loop μ-loop
 keyed-line-requires c κs = omega arith
 
--- src/lib.rt:350:49
 sub-t13 : tie.Need-sub-t13 Inv-loop μ-loop
 sub-t13 c = omega arith
 
--- src/lib.rt:350:49
 add-t14 : tie.Need-add-t14 Inv-loop μ-loop
 add-t14 c = omega (arith, c .before .before .before .keyed-line .ensures .1)
 
--- src/lib.rt:350:13
 returns : tie.Need-returns Inv-loop μ-loop
 returns c =
     let a = c .before .before .before .before .before .before .before .before .args in
@@ -61,39 +56,31 @@ returns c =
     let r = c .before .before .before .keyed-line in
     (filled-stuck (l .out) (l .i) (l .at - a .from) (readTimes readAt (a .count) (drop (a .from) (now (a .s)))) (readTimes readAt (a .count - l .i) (drop (l .at) (now (a .s)))) (l .inv .3) (r .result .size) (times-stuck readAt (now (a .s)) (l .at) (a .count - l .i) (r .result .size) (omega arith) (hex-stuck (atWord ++ eq) 4 (now (a .s)) (l .at) (r .result) (r .ensures .0) (not-true _ (c .before .if1 .taken)))), omega (arith, r .ensures .1))
 
--- src/lib.rt:352:31
 add-hex-value : tie.Need-add-hex-value Inv-loop μ-loop
 add-hex-value c =
     let f = one c in
     omega (arith, f .long, c .before .before .keyed-line .ensures .1)
 
--- src/lib.rt:352:18
 hex-value-requires : tie.Need-hex-value-requires Inv-loop μ-loop
 hex-value-requires c κs =
     let f = one c in
     ((omega arith, omega (arith, f .long, c .before .before .keyed-line .ensures .1)), f .digits)
 
--- src/lib.rt:352:9
 mul-out : tie.Need-mul-out Inv-loop μ-loop
 mul-out c = omega arith
 
--- src/lib.rt:352:9
 array-write-out : tie.Need-array-write-out Inv-loop μ-loop
 array-write-out c = omega arith
 
--- src/lib.rt:353:9
 add-at : tie.Need-add-at Inv-loop μ-loop
 add-at c = omega (arith, c .before .before .before .before .keyed-line .ensures .1)
 
--- src/lib.rt:354:9
 add-i : tie.Need-add-i Inv-loop μ-loop
 add-i c = omega arith
 
--- src/lib.rt:347:5
 loop-less : tie.Need-loop-less Inv-loop μ-loop
 loop-less c = omega arith
 
--- src/lib.rt:347:5
 loop-again : tie.Need-loop-again Inv-loop μ-loop
 loop-again c =
     let a = c .before .before .before .before .before .before .before .before .before .args in
@@ -110,11 +97,9 @@ loop-again c =
           ∙ ap (λ (j : ℕ). ahead (v .result ∷ []) n (readTimes readAt j (drop (l .at + n) (now (a .s))))) (let q : a .count - l .i - 1 ≡ a .count - (l .i + 1) = omega arith in q)),
     )
 
--- src/lib.rt:356:33
 sub-t21 : tie.Need-sub-t21 Inv-loop μ-loop
 sub-t21 c = omega arith
 
--- src/lib.rt:339:1
 returns-2 : tie.Need-returns-2 Inv-loop μ-loop
 returns-2 c =
     let a = c .before .before .before .args in

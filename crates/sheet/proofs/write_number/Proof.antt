@@ -1,11 +1,12 @@
-use native.Mathlib.Omega.{arith}
-use denote.Ref.{now}
+-- `write_number`: the number of writes.
 use Prim.Native.Nat.{_≤_}
+use native.Mathlib.Omega.{arith}
 use mathlib.Core.Path.{sym, _∙_}
+use borrow.Author.Needs.{needs}
 use lib.ListN.{getD}
+use denote.Ref.{now}
 use Rattle.text.proofs.Tests.{between-le}
 use Rattle.sheet.proofs.Counting.{number-end, number-more, number-off}
-use borrow.Author.Needs.{needs}
 use Rattle.sheet.proofs.write_number.Statement.{statement}
 use Rattle.sheet.proofs.write_number.Tie as tie
 use Rattle.sheet.proofs.write_number.Reads as reads
@@ -19,44 +20,35 @@ digits c =
     let a = c .before .before .before .before .before .args in
     between-le 48 57 (getD (now (a .s)) (a .at) 0) (sym (c .before .within .ensures) ∙ c .if2 .taken)
 
--- src/lib.rt:310:9
 returns : tie.Need-returns
 returns c =
     let a = c .before .before .args in
     (number-end (now (a .s)) (a .at) (c .if1 .taken), omega arith)
 
--- src/lib.rt:312:13
 shared-slice-read-b : tie.Need-shared-slice-read-b
 shared-slice-read-b c = search needs
 
--- src/lib.rt:313:8
 within-requires : tie.Need-within-requires
 within-requires c κs = search needs
 
--- src/lib.rt:314:36
 add-second-digit : tie.Need-add-second-digit
 add-second-digit c = search needs
 
--- src/lib.rt:314:44
 sub-second-digit : tie.Need-sub-second-digit
 sub-second-digit c = digits c .0
 
--- src/lib.rt:314:13
 second-digit-requires : tie.Need-second-digit-requires
 second-digit-requires c κs = (omega arith, omega (arith, digits c))
 
--- src/lib.rt:315:51
 add-t10 : tie.Need-add-t10
 add-t10 c = omega (arith, c .before .second-digit .ensures .1)
 
--- src/lib.rt:315:9
 returns-2 : tie.Need-returns-2
 returns-2 c =
     let a = c .before .before .before .before .before .before .before .args in
     let next = c .before .second-digit in
     (number-more (now (a .s)) (a .at) (omega arith) (sym (c .before .before .before .within .ensures) ∙ c .before .before .if2 .taken) (next .result) (next .ensures .0), omega (arith, next .ensures .1))
 
--- src/lib.rt:304:1
 returns-3 : tie.Need-returns-3
 returns-3 c =
     let a = c .before .before .before .before .before .args in
