@@ -5,3 +5,4 @@ pub mod Fills
 pub mod Tables
 pub mod Firsts
 pub mod Later
+pub mod Parts
