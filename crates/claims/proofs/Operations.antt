@@ -9,6 +9,7 @@ use Rattle.counter.proofs.Unique as counter
 use Rattle.strip.proofs.Unique as strip
 use Rattle.frame.proofs.Unique as frame
 use Rattle.screen.proofs.Unique as screen
+use Rattle.sheet.proofs.Unique as sheet
 
 abbrev pub operations : List Operation
 operations =
@@ -36,6 +37,10 @@ operations =
     ∷ strip.fetch-op
     ∷ frame.draw-op
     ∷ screen.show-op
+    ∷ sheet.read-op
+    ∷ sheet.deed-op
+    ∷ sheet.annotation-op
+    ∷ sheet.tail-op
     ∷ []
 
 -- each of them takes every input and fixes its outcome
@@ -65,6 +70,10 @@ all-fix =
     & strip.fetch-fixes
     & frame.draw-fixes
     & screen.show-fixes
+    & sheet.read-fixes
+    & sheet.deed-fixes
+    & sheet.annotation-fixes
+    & sheet.tail-fixes
     & none
 
 -- the functions that the list is of, by the names that the compiler has for them
@@ -93,5 +102,9 @@ pub named : map (λ o. o .key) operations
     ∷ "strip::fetch"
     ∷ "frame::draw"
     ∷ "screen::show"
+    ∷ "sheet::read"
+    ∷ "sheet::deed"
+    ∷ "sheet::annotation"
+    ∷ "sheet::tail"
     ∷ []
 named = refl
