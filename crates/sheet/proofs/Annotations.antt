@@ -92,7 +92,7 @@ module _ (κs : Lfts 1) (s : Lent) where
         omega (arith, ap length (line-holds n r q), ap length (v .named), length-append (v .value .key) (eq ++ v .value .value), length-append eq (v .value .value)),
   )
 
-  tail-holds : (t : Lent) → Tail κs s t → now t ≡ lines (fieldsIn (now s) .annotations)
+  pub tail-holds : (t : Lent) → Tail κs s t → now t ≡ lines (fieldsIn (now s) .annotations)
   tail-holds t p = go (readSheet (now s)) refl
     where
       go : (o : Reading Fields) → readSheet (now s) ≡ o → now t ≡ lines (fieldsIn (now s) .annotations)
