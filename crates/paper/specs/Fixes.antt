@@ -71,7 +71,6 @@ pub data AllFix : List Operation → Type 3 where
   _&_ : {o : Operation} {os : List Operation} → Fixes o → AllFix os → AllFix (o ∷ os)
 
 infixr 5 _&_
-
 -- what is seen of a plain result: all of it
 abbrev pub whole : {X : Type 0} → X → X
 whole z = z

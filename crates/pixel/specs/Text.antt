@@ -1,0 +1,40 @@
+-- Text (A/G = 0): which of a byte's eight dots are lit on a row of twelve, and in which colour; the others are black.
+use Prim.Native.Nat.{ℕ, _+_, _-_, _*_, _%_}
+use mathlib.Core.Bool.{_&&_}
+use mathlib.Core.List.{List}
+use lib.Dec.{eqb, ltb}
+use lib.ListN.{getD}
+use Rattle.paper.specs.Choose.{choose}
+use Rattle.settings.specs.declared.Look.{Look}
+use Rattle.settings.specs.Fields.{bits, gm1, gm0, css}
+
+-- A byte below 128 is a letter.
+
+-- DD6, bit 6 of a byte
+abbrev pub dd6 : ℕ → ℕ
+dd6 b = bits b 6 1
+
+-- which pattern of the font: the low six bits; with GM0 = 1 and DD6 = 1, 64 plus the low five
+unfoldable pub pattern : Look → ℕ → ℕ
+pattern l b = choose (eqb (gm0 l) 1 && eqb (dd6 b) 1) (64 + b % 32) (b % 64)
+
+-- whether it is inverted, 1 or 0: with GM0 = 0, as DD6 says; with GM0 = 1 it is not
+unfoldable pub inverted : Look → ℕ → ℕ
+inverted l b = choose (eqb (gm0 l) 1) 0 (dd6 b)
+
+-- a row of its pattern; inverting exchanges lit and unlit dots, and GM1 = 1 exchanges them once more
+unfoldable pub letter : Look → List ℕ → ℕ → ℕ → ℕ
+letter l font b row = choose (eqb (inverted l b) (gm1 l)) (getD font (pattern l b * 12 + row) 0) (255 - getD font (pattern l b * 12 + row) 0)
+
+-- A byte of 128 or more is Semigraphics 4: bits 3, 2, 1, 0 light top left, top right, bottom left, bottom right,
+-- each part 4 dots by 6 rows. No pin matters.
+unfoldable pub block : Look → ℕ → ℕ → ℕ
+block l b row = choose (ltb row 6) (240 * bits b 3 1 + 15 * bits b 2 1) (240 * bits b 1 1 + 15 * bits b 0 1)
+
+-- the eight dots of a byte on a row, as the bits of a number
+unfoldable pub lit : Look → List ℕ → ℕ → ℕ → ℕ
+lit l font b row = choose (ltb b 128) (letter l font b row) (block l b row)
+
+-- the colour of the lit dots: of a letter green or orange by CSS, of Semigraphics bits 6-4
+unfoldable pub ink : Look → ℕ → ℕ
+ink l b = choose (ltb b 128) (7 * css l) (bits b 4 3)

@@ -1,0 +1,6 @@
+-- The laws of the settings, and that the contracts fix their outcomes.
+pub mod Masks
+pub mod Borders
+pub mod Widths
+pub mod Images
+pub mod Unique

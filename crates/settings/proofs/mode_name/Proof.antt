@@ -1,0 +1,44 @@
+-- `settings::mode_name` meets its contract.
+use Rattle.settings.specs.Modes.{modeName}
+use borrow.Author.Needs.{needs}
+use Rattle.settings.proofs.mode_name.Statement.{statement}
+use Rattle.settings.proofs.mode_name.Tie as tie
+
+gm-requires : tie.Need-gm-requires
+gm-requires c κs = search needs
+
+graphics-requires : tie.Need-graphics-requires
+graphics-requires c κs = search needs
+
+array-read-t7 : tie.Need-array-read-t7
+array-read-t7 c = search needs
+
+array-read-t11 : tie.Need-array-read-t11
+array-read-t11 c = search needs
+
+returns : tie.Need-returns
+unfolding modeName
+returns c = simp (rw (c .before .graphics .ensures) at (c .if1 .taken), c .before .before .gm .ensures)
+
+cast-t14 : tie.Need-cast-t14
+cast-t14 c = search needs
+
+add-t15 : tie.Need-add-t15
+add-t15 c = search needs
+
+returns-2 : tie.Need-returns-2
+unfolding modeName
+returns-2 c = simp (rw (c .before .graphics .ensures) at (c .if1 .left), c .before .before .gm .ensures)
+
+pub mode-name-spec : {M : Type 1} → statement M
+mode-name-spec =
+    tie.close
+    (tie.spec
+    gm-requires
+    graphics-requires
+    array-read-t7
+    array-read-t11
+    returns
+    cast-t14
+    add-t15
+    returns-2)

@@ -1,0 +1,156 @@
+// What is read off a control word and a pin byte: the SAM's fields, the video chip's pins, and the mode they name.
+ghost use mathlib.Core.Path.{_≡_};
+ghost use Prim.Native.Nat.{_<_};
+ghost use Rattle.settings.specs.Fields.{bits, videoMode, offset, fast, graphics, external, gm, css};
+ghost use Rattle.settings.specs.Refusals.{imageFits};
+ghost use Rattle.settings.specs.Modes.{width, dots, border, fontSize, modeName, named};
+
+// The look of a frame: the pin byte, fixed for a frame.
+pub struct Look {
+    pub pins: u8,
+}
+
+// All that decides a frame but its bytes: the SAM's control word, and the look.
+pub struct Settings {
+    pub word: u16,
+    pub look: Look,
+}
+
+// A mode's name: the first `len` bytes, the rest 0.
+pub struct Name {
+    pub bytes: [u8; 3],
+    pub len: usize,
+}
+
+const WIDTHS: [usize; 8] = [16, 16, 32, 16, 32, 16, 32, 32];
+
+const DOTS: [usize; 8] = [4, 2, 2, 2, 2, 2, 2, 1];
+
+const KINDS: [u8; 8] = [b'C', b'R', b'C', b'R', b'C', b'R', b'C', b'R'];
+
+const DIGITS: [u8; 8] = [b'1', b'1', b'2', b'2', b'3', b'3', b'6', b'6'];
+
+// `count` bits of `word` from bit `at` on: every field of the word and of the pin byte is read so.
+fn field(word: u16, at: u16, count: u16) -> u16
+    requires { ⌜ (at < 16) × (count < 16) ⌝ }
+    ensures { λ r. ⌜ r ≡ bits word at count ⌝ }
+{
+    let mask = (1 << count) - 1;
+    (word >> at) & mask
+}
+
+// V2-V0, the SAM's video mode.
+pub fn video_mode(settings: Settings) -> usize
+    ensures { λ r. ⌜ r ≡ videoMode settings ⌝ }
+{
+    field(settings.word, 0, 3) as usize
+}
+
+// F6-F0, the start of the window in steps of 512 bytes.
+pub fn offset(settings: Settings) -> u16
+    ensures { λ r. ⌜ r ≡ offset settings ⌝ }
+{
+    field(settings.word, 3, 7)
+}
+
+// R1: the fast rate, at which there is no display.
+pub fn fast(settings: Settings) -> bool
+    ensures { λ r. ⌜ r ≡ fast settings ⌝ }
+{
+    field(settings.word, 12, 1) == 1
+}
+
+// A/G.
+pub fn graphics(look: Look) -> bool
+    ensures { λ r. ⌜ r ≡ graphics look ⌝ }
+{
+    field(look.pins as u16, 5, 1) == 1
+}
+
+// INT/EXT.
+pub fn external(look: Look) -> bool
+    ensures { λ r. ⌜ r ≡ external look ⌝ }
+{
+    field(look.pins as u16, 4, 1) == 1
+}
+
+// GM2-GM0.
+pub fn gm(look: Look) -> usize
+    ensures { λ r. ⌜ r ≡ gm look ⌝ }
+{
+    field(look.pins as u16, 1, 3) as usize
+}
+
+// CSS.
+pub fn css(look: Look) -> u8
+    ensures { λ r. ⌜ r ≡ css look ⌝ }
+{
+    field(look.pins as u16, 0, 1) as u8
+}
+
+// W, the bytes a line.
+pub fn width(look: Look) -> usize
+    ensures { λ r. ⌜ r ≡ width look ⌝ }
+{
+    let g = gm(look);
+    if graphics(look) { WIDTHS[g] } else { 32 }
+}
+
+// The dots per element; a text byte's dots stand for themselves.
+pub fn dots(look: Look) -> usize
+    ensures { λ r. ⌜ r ≡ dots look ⌝ }
+{
+    let g = gm(look);
+    if graphics(look) { DOTS[g] } else { 1 }
+}
+
+// The border's colour.
+pub fn border(look: Look) -> u8
+    ensures { λ r. ⌜ r ≡ border look ⌝ }
+{
+    if graphics(look) {
+        return 4 * css(look);
+    }
+    // GM2, and then GM1
+    if field(look.pins as u16, 3, 1) == 0 {
+        return 8;
+    }
+    if field(look.pins as u16, 2, 1) == 1 {
+        return 8;
+    }
+    7 * css(look)
+}
+
+// How long the font is that text asks for.
+pub fn font_size(look: Look) -> usize
+    ensures { λ r. ⌜ r ≡ fontSize look ⌝ }
+{
+    1152
+}
+
+// The mode's name, as a report gives it.
+pub fn mode_name(look: Look) -> Name
+    ensures { λ r. ⌜ r ≡ named (modeName look) ⌝ }
+{
+    let g = gm(look);
+    if graphics(look) {
+        return Name {
+            bytes: [KINDS[g], b'G', DIGITS[g]],
+            len: 3,
+        };
+    }
+    Name {
+        bytes: [b'A', 49 + (g % 4) as u8, 0],
+        len: 2,
+    }
+}
+
+// Whether an image may have this length.
+pub fn image_fits(length: usize) -> bool
+    ensures { λ r. ⌜ r ≡ imageFits length ⌝ }
+{
+    match length {
+        4096 | 8192 | 16384 | 32768 | 65536 => true,
+        _ => false,
+    }
+}
