@@ -62,10 +62,10 @@ some-accepted s h = go (readSheet s) refl
     go (got f n) e = ap isGot e
     go (stuck n) e = absurd (omega (arith, h, ap (λ (o : Reading Fields). length (fieldsRead o .annotations)) e))
 
-module _ (κs : Lfts 1) (s : Lent) where
+module _ (s : Lent) where
   -- the part that is annotation n holds its line
-  pub line-holds : (n : ℕ) (r : Lent) → Line κs s n r → now r ≡ lineAt (fieldsIn (now s) .annotations) n
-  line-holds n r p = ⊎-elim past within (le-or-lt (length (fieldsIn (now s) .annotations)) n)
+  pub line-holds : (κs : Lfts 1) (n : ℕ) (r : Lent) → Line κs s n r → now r ≡ lineAt (fieldsIn (now s) .annotations) n
+  line-holds κs n r p = ⊎-elim past within (le-or-lt (length (fieldsIn (now s) .annotations)) n)
     where
       past : length (fieldsIn (now s) .annotations) ≤ n → now r ≡ lineAt (fieldsIn (now s) .annotations) n
       past h =
@@ -84,16 +84,16 @@ module _ (κs : Lfts 1) (s : Lent) where
           ∙ v .holds ∙ sym (v .named)
 
   -- annotation n is not empty exactly for n below the count
-  pub line-some : (z : Sheet) → Reads κs s z → (n : ℕ) (r : Lent) → Line κs s n r → (0 < length (now r)) ↔ (n < z .annotations)
-  line-some z p n r q = (
-    λ h. ⊎-elim (λ (k : length (fieldsIn (now s) .annotations) ≤ n). absurd (omega (arith, h, ap length (line-holds n r q), none-from (now s) n k .1))) (λ (k : n < length (fieldsIn (now s) .annotations)). omega (arith, k, p .1 .1 .1 .1)) (le-or-lt (length (fieldsIn (now s) .annotations)) n),
+  pub line-some : (κs κr : Lfts 1) (z : Sheet) → Reads κs s z → (n : ℕ) (r : Lent) → Line κr s n r → (0 < length (now r)) ↔ (n < z .annotations)
+  line-some κs κr z p n r q = (
+    λ h. ⊎-elim (λ (k : length (fieldsIn (now s) .annotations) ≤ n). absurd (omega (arith, h, ap length (line-holds κr n r q), none-from (now s) n k .1))) (λ (k : n < length (fieldsIn (now s) .annotations)). omega (arith, k, p .1 .1 .1 .1)) (le-or-lt (length (fieldsIn (now s) .annotations)) n),
     λ h. let k : n < length (fieldsIn (now s) .annotations) = omega (arith, h, p .1 .1 .1 .1) in
         let v = line-in (now s) n (some-accepted (now s) (omega arith)) k in
-        omega (arith, ap length (line-holds n r q), ap length (v .named), length-append (v .value .key) (eq ++ v .value .value), length-append eq (v .value .value)),
+        omega (arith, ap length (line-holds κr n r q), ap length (v .named), length-append (v .value .key) (eq ++ v .value .value), length-append eq (v .value .value)),
   )
 
-  pub tail-holds : (t : Lent) → Tail κs s t → now t ≡ lines (fieldsIn (now s) .annotations)
-  tail-holds t p = go (readSheet (now s)) refl
+  pub tail-holds : (κs : Lfts 1) (t : Lent) → Tail κs s t → now t ≡ lines (fieldsIn (now s) .annotations)
+  tail-holds κs t p = go (readSheet (now s)) refl
     where
       go : (o : Reading Fields) → readSheet (now s) ≡ o → now t ≡ lines (fieldsIn (now s) .annotations)
       go (got f n) e =
@@ -102,40 +102,40 @@ module _ (κs : Lfts 1) (s : Lent) where
       go (stuck n) e = p .bytes ∙ rw e
 
   -- the lines of all annotations, each with its byte 10, joined in order, are the tail
-  pub lines-join : (z : Sheet) → Reads κs s z → (r : ℕ → Lent) → ((n : ℕ) → Line κs s n (r n)) → (t : Lent) → Tail κs s t → joined (z .annotations) (λ n. now (r n) ++ nl) ≡ now t
-  lines-join z p r q t w =
+  pub lines-join : (κs κt : Lfts 1) (κr : ℕ → Lfts 1) (z : Sheet) → Reads κs s z → (r : ℕ → Lent) → ((n : ℕ) → Line (κr n) s n (r n)) → (t : Lent) → Tail κt s t → joined (z .annotations) (λ n. now (r n) ++ nl) ≡ now t
+  lines-join κs κt κr z p r q t w =
       let l = fieldsIn (now s) .annotations in
       ap (λ (k : ℕ). joined k (λ n. now (r n) ++ nl)) (p .1 .1 .1 .1)
-      ∙ joined-by (length l) (λ n. now (r n) ++ nl) (λ n. lineAt l n ++ nl) (λ n _. ap (λ (x : List ℕ). x ++ nl) (line-holds n (r n) (q n)))
-      ∙ joined-lines l ∙ sym (tail-holds t w)
+      ∙ joined-by (length l) (λ n. now (r n) ++ nl) (λ n. lineAt l n ++ nl) (λ n _. ap (λ (x : List ℕ). x ++ nl) (line-holds (κr n) n (r n) (q n)))
+      ∙ joined-lines l ∙ sym (tail-holds κt t w)
 
   -- which arm an answer is of
-  done-accepted : (z : Sheet) → Reads κs s z → toldOf (z .answer) .number ≡ 0 → accepted (now s) ≡ true
-  done-accepted z p h = go (readSheet (now s)) refl
+  done-accepted : (κs : Lfts 1) (z : Sheet) → Reads κs s z → toldOf (z .answer) .number ≡ 0 → accepted (now s) ≡ true
+  done-accepted κs z p h = go (readSheet (now s)) refl
     where
       go : (o : Reading Fields) → readSheet (now s) ≡ o → accepted (now s) ≡ true
       go (got f n) e = ap isGot e
       go (stuck n) e = absurd (omega (arith, h, ap (λ (x : Told). x .number) (p .0 ∙ ap toldRead e)))
 
   -- accepted: the bytes are those of valid fields, and the tail is their end
-  pub accepted-sheet : (z : Sheet) → Reads κs s z → toldOf (z .answer) .number ≡ 0 → ValidSheet (fieldsIn (now s)) × (now s ≡ render (fieldsIn (now s)))
-  accepted-sheet z p h = accepted-render (now s) (done-accepted z p h)
+  pub accepted-sheet : (κs : Lfts 1) (z : Sheet) → Reads κs s z → toldOf (z .answer) .number ≡ 0 → ValidSheet (fieldsIn (now s)) × (now s ≡ render (fieldsIn (now s)))
+  accepted-sheet κs z p h = accepted-render (now s) (done-accepted κs z p h)
 
-  pub tail-ends : (z : Sheet) → Reads κs s z → toldOf (z .answer) .number ≡ 0 → (t : Lent) → Tail κs s t → now s ≡ front (fieldsIn (now s)) ++ now t
-  tail-ends z p h t w = accepted-sheet z p h .1 ∙ ap (λ (x : List ℕ). front (fieldsIn (now s)) ++ x) (sym (tail-holds t w))
+  pub tail-ends : (κs κt : Lfts 1) (z : Sheet) → Reads κs s z → toldOf (z .answer) .number ≡ 0 → (t : Lent) → Tail κt s t → now s ≡ front (fieldsIn (now s)) ++ now t
+  tail-ends κs κt z p h t w = accepted-sheet κs z p h .1 ∙ ap (λ (x : List ℕ). front (fieldsIn (now s)) ++ x) (sym (tail-holds κt t w))
 
   -- the deed's part holds the deed
-  pub deed-holds : (r : Lent) → Deed κs s r → now r ≡ fieldsIn (now s) .deed
-  deed-holds r p = go (readSheet (now s)) refl
+  pub deed-holds : (κs : Lfts 1) (r : Lent) → Deed κs s r → now r ≡ fieldsIn (now s) .deed
+  deed-holds κs r p = go (readSheet (now s)) refl
     where
       go : (o : Reading Fields) → readSheet (now s) ≡ o → now r ≡ fieldsIn (now s) .deed
       go (got f n) e = p .bytes ∙ deed-bytes (now s) (ap isGot e)
       go (stuck n) e = p .bytes ∙ rw e
 
   -- refused: the number is 11, the place is the longest beginning that some accepted sheet also begins with, and no valid fields make the bytes
-  pub refused-sheet : (z : Sheet) → Reads κs s z → (toldOf (z .answer) .number ≡ 0 → ⊥)
+  pub refused-sheet : (κs : Lfts 1) (z : Sheet) → Reads κs s z → (toldOf (z .answer) .number ≡ 0 → ⊥)
       → (toldOf (z .answer) .number ≡ 11) × Longest sheets (now s) (toldOf (z .answer) .place) × ((f : Fields) → ValidSheet f → now s ≡ render f → ⊥)
-  refused-sheet z p h = go (readSheet (now s)) refl
+  refused-sheet κs z p h = go (readSheet (now s)) refl
     where
       go : (o : Reading Fields) → readSheet (now s) ≡ o → (toldOf (z .answer) .number ≡ 11) × Longest sheets (now s) (toldOf (z .answer) .place) × ((f : Fields) → ValidSheet f → now s ≡ render f → ⊥)
       go (got f n) e = absurd (h (ap (λ (x : Told). x .number) (p .0 ∙ ap toldRead e)))

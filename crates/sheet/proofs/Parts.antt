@@ -76,6 +76,9 @@ accepted-render s h = go (readSheet s) refl
     go (stuck n) e = absurd (clash h (ap isGot e))
 
 module _ (s : List ℕ) (h : accepted s ≡ true) where
+  pub few-lines : length (fieldsIn s .annotations) ≤ 200
+  few-lines = accepted-render s h .0 .annotationsValid .1
+
   pub tail-at : tailFrom s ≡ length (front (fieldsIn s))
   tail-at = rw h
 

@@ -376,7 +376,7 @@ fn count_line(s: &[u8], at: usize) -> Counted
     ensures { λ r. ⌜ at + r .size ≤ length (now (s .entry)) ⌝ }
 {
     let n = common_bytes(s, at, &WRITES_KEY);
-    if n < 7 {
+    if n < WRITES_KEY.len() {
         return Counted {
             whole: false,
             size: n,
@@ -409,7 +409,7 @@ fn write_lines(s: &[u8], from: usize, count: usize) -> Writes
                 writes: [0u16; 64],
             };
         }
-        out[i] = hex_value(s, at + 3, 4);
+        out[i] = hex_value(s, at + AT_KEY.len(), 4);
         at += line.size;
         i += 1;
     }
@@ -465,11 +465,12 @@ fn survey(s: &[u8]) -> Outline
         return broken(tail + notes.size);
     }
     let writes = lines.writes;
+    // Beside the deed its line has `deed=` and the line end, 6 bytes.
     Outline {
         whole: true,
         place: 0,
         deed: deed.size - 6,
-        pins: hex_value(s, pins_at + 5, 2) as u8,
+        pins: hex_value(s, pins_at + PINS_KEY.len(), 2) as u8,
         writes,
         write_count: count.count,
         tail,
@@ -537,8 +538,9 @@ pub fn deed(sheet: &[u8]) -> &[u8]
 {
     let found = survey(sheet);
     if found.whole {
-        let end = 5 + found.deed;
-        return &sheet[5..end];
+        let from = DEED_KEY.len();
+        let end = from + found.deed;
+        return &sheet[from..end];
     }
     &sheet[..0]
 }

@@ -9,7 +9,7 @@ use Rattle.sheet.specs.Steps.{stepOf}
 use Rattle.sheet.specs.declared.Step.{Step}
 use Rattle.sheet.specs.Sheet.{line, lines}
 use Rattle.sheet.specs.Given.{tailFrom, fieldsIn}
-use Rattle.sheet.proofs.Parts.{LineIn, line-in, line-from}
+use Rattle.sheet.proofs.Parts.{few-lines, LineIn, line-in, line-from}
 use Rattle.sheet.proofs.annotation_start.Statement.{statement}
 use Rattle.sheet.proofs.annotation_start.Tie as tie
 use Rattle.sheet.proofs.annotation_start.Reads as reads
@@ -46,7 +46,9 @@ add-at : tie.Need-add-at Inv-loop μ-loop
 add-at c = omega (arith, turn c, here (c .before .before) .within)
 
 add-k : tie.Need-add-k Inv-loop μ-loop
-add-k c = omega arith
+add-k c =
+    let b = c .before .before .before .before .before in
+    omega (arith, b .pre .1 .1, few-lines (now (b .args .s)) (b .pre .0))
 
 loop-less : tie.Need-loop-less Inv-loop μ-loop
 loop-less c = omega arith
