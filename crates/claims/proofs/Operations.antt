@@ -10,6 +10,7 @@ use Rattle.strip.proofs.Unique as strip
 use Rattle.frame.proofs.Unique as frame
 use Rattle.screen.proofs.Unique as screen
 use Rattle.sheet.proofs.Unique as sheet
+use Rattle.wording.proofs.Unique as wording
 
 abbrev pub operations : List Operation
 operations =
@@ -41,6 +42,7 @@ operations =
     ∷ sheet.deed-op
     ∷ sheet.annotation-op
     ∷ sheet.tail-op
+    ∷ wording.report-op
     ∷ []
 
 -- each of them takes every input and fixes its outcome
@@ -74,6 +76,7 @@ all-fix =
     & sheet.deed-fixes
     & sheet.annotation-fixes
     & sheet.tail-fixes
+    & wording.report-fixes
     & none
 
 -- the functions that the list is of, by the names that the compiler has for them
@@ -106,5 +109,6 @@ pub named : map (λ o. o .key) operations
     ∷ "sheet::deed"
     ∷ "sheet::annotation"
     ∷ "sheet::tail"
+    ∷ "wording::report"
     ∷ []
 named = refl
