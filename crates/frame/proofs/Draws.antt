@@ -1,18 +1,18 @@
 -- Drawing, done or refused: what is then known of the lengths, and what the frame is.
-use Prim.Native.Nat.{ℕ}
+use Prim.Native.Nat.{ℕ, _*_, _≤_}
 use mathlib.Core.Path.{_≡_, refl}
 use mathlib.Core.Bool.{Bool, true, false, not, _&&_}
 use mathlib.Core.List.{List}
 use native.Mathlib.Omega.{arith}
 use lib.Dec.{eqb}
 use lib.ListN.{length}
-use borrow.Author.Tests.{eq-eqb, eqb-true, ltb-false}
+use borrow.Author.Tests.{le-ltb, eq-eqb, eqb-true, ltb-false}
 use Rattle.paper.specs.Told.{done}
 use Rattle.paper.specs.Written.{written}
 use Rattle.paper.proofs.Orders.{done-when}
 use Rattle.settings.specs.declared.Look.{Look}
 use Rattle.settings.specs.Fields.{graphics}
-use Rattle.settings.specs.Modes.{border, fontSize}
+use Rattle.settings.specs.Modes.{width, border, fontSize}
 use Rattle.pixel.specs.Picture.{picture}
 use Rattle.frame.specs.Draw.{drawOrder, drawTold, frameAfter, Fits}
 
@@ -32,6 +32,12 @@ accepted look font strip frame e =
       strip-long = ltb-false _ _ (n .1 .1 .1 .0);
       frame-long = ltb-false _ _ (n .1 .1 .1 .1 .0);
     }
+
+-- in graphics it is done wherever strip and frame are long enough
+pub accepts : (look : Look) (font strip frame : ℕ) → look .pins ≤ 63 → graphics look ≡ true → 192 * width look ≤ strip → 49152 ≤ frame → drawTold look font strip frame .number ≡ 0
+unfolding drawTold drawOrder
+accepts look font strip frame p g s f =
+    done-when (done (border look)) refl (drawOrder look font strip frame) tt .1 (le-ltb _ _ p, (simp g, (simp g, (le-ltb _ _ s, (le-ltb _ _ f, tt)))))
 
 module _ (look : Look) (font strip frame : List ℕ) where
   -- and the frame holds the picture
