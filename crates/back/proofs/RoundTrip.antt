@@ -124,10 +124,10 @@ module _ (l : Look) (g : graphics l ≡ true) where
   strip-reads f i h = fills f .is i zero-le h
 
   pub strip-bytes : (f : List ℕ) → Bytes (strip-of f)
-  unfolding readByte
+  unfolding readByte read
   strip-bytes f j =
       ⊎-elim
-      (λ h. rw (strip-reads f j h) (read-small l (dots l) f (j * breadth l)))
+      (λ h. rw (strip-reads f j h) (read-small l (λ (i : ℕ). getD f (j * breadth l + i * dots l) 0)))
       (λ h. rw (fills f .after j h ∙ zeros (192 * width l) j) (omega arith))
       (lt-or-ge j (192 * width l))
 

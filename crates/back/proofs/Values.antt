@@ -2,10 +2,8 @@
 use Prim.Native.Nat.{ℕ, zero, suc, _+_, _*_, _/_, _%_, _<_}
 use mathlib.Core.Path.{_≡_, refl, sym, _∙_}
 use mathlib.Core.Bool.{Bool, true, false, _||_}
-use mathlib.Core.List.{List}
 use native.Mathlib.Omega.{arith}
 use lib.Dec.{eqb}
-use lib.ListN.{getD}
 use borrow.Author.Tests.{eq-eqb, eqb-true}
 use Rattle.paper.specs.Choose.{choose}
 use Rattle.settings.specs.declared.Look.{Look}
@@ -14,7 +12,7 @@ use Rattle.pixel.specs.Dots.{black, bit, oneBit, twoBits, digits}
 use Rattle.pixel.specs.Graphics.{count, element}
 use Rattle.pixel.proofs.Digits.{same-digits, digits-small, bits-digits, pairs-digits, bit-out, pair-out}
 use Rattle.pixel.proofs.Elements.{by-mode}
-use Rattle.back.specs.Read.{values, value, read}
+use Rattle.back.specs.Read.{values, value}
 use Rattle.back.specs.Stray.{shows}
 
 small-by : (b : Bool) → choose b 0 1 < 2
@@ -89,10 +87,10 @@ module _ (l : Look) where
       (λ m _. simp m (shown-by (4 * css l) (eqb (bit b j) 1)))
       (λ m _. simp m (eq-eqb _ (css l) (omega arith)))
 
--- what is read is a byte
-pub read-small : (l : Look) (e : ℕ) (frame : List ℕ) (at : ℕ) → read (values l) (count l) e frame at < 256
-unfolding values count read
-read-small l e frame at =
+-- what is read off any colours is a byte
+pub read-small : (l : Look) (g : ℕ → ℕ) → digits (values l) (λ (j : ℕ). value (values l) (g j)) (count l) < 256
+unfolding values count
+read-small l g =
     by-mode l
-    (λ m _. simp m (digits-small 2 (λ (j : ℕ). value 2 (getD frame (at + j * e) 0)) (λ j. value-two (getD frame (at + j * e) 0)) 8))
-    (λ m _. simp m (digits-small 4 (λ (j : ℕ). value 4 (getD frame (at + j * e) 0)) (λ j. value-four (getD frame (at + j * e) 0)) 4))
+    (λ m _. simp m (digits-small 2 (λ (j : ℕ). value 2 (g j)) (λ j. value-two (g j)) 8))
+    (λ m _. simp m (digits-small 4 (λ (j : ℕ). value 4 (g j)) (λ j. value-four (g j)) 4))
