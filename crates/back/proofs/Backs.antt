@@ -1,5 +1,5 @@
 -- Reading back, done or refused: what is then known, what is told, and what the strip is.
-use Prim.Native.Nat.{ℕ, _*_, _≤_, _<_, zero-le}
+use Prim.Native.Nat.{ℕ, _*_, _≤_, _<_}
 use mathlib.Core.Path.{_≡_, refl, ap, _∙_}
 use mathlib.Core.Bool.{Bool, true, false, not, _||_}
 use mathlib.Core.List.{List}
@@ -13,17 +13,15 @@ use Rattle.paper.specs.Order.{firstOf}
 use Rattle.paper.specs.Written.{written}
 use Rattle.paper.proofs.Orders.{done-when}
 use Rattle.paper.proofs.Later.{in-two, refused-alike, passed}
-use Rattle.paper.proofs.Fills.{written-fills}
 use Rattle.settings.specs.declared.Look.{Look}
 use Rattle.settings.specs.Fields.{graphics}
 use Rattle.settings.specs.Modes.{width}
-use Rattle.pixel.specs.Picture.{picture}
 use Rattle.frame.specs.Draw.{frameAfter}
-use Rattle.frame.proofs.Draws.{accepts, frame-done}
+use Rattle.frame.proofs.Draws.{accepts-graphics, frame-done}
 use Rattle.back.specs.Read.{readByte}
 use Rattle.back.specs.Stray.{firstStray}
 use Rattle.back.specs.Back.{lengthOrder, strayOrder, backTold, stripAfter, Fits}
-use Rattle.back.proofs.RoundTrip.{drawn-clean}
+use Rattle.back.proofs.RoundTrip.{written-draws, drawn-clean}
 
 yes-not : (a : Bool) → not a ≡ false → a ≡ true
 yes-not true e = refl
@@ -41,8 +39,8 @@ pub drawing-clean : (l : Look) (font S f P old : List ℕ) → l .pins ≤ 63 �
 drawing-clean l font S f P old p g s o e same =
     drawn-clean l g font S f (λ k h.
     same k h
-    ∙ ap (λ (x : List ℕ). getD x k 0) (e ∙ frame-done l font S old (accepts l (length font) (length S) (length old) p g s o))
-    ∙ written-fills (picture l font S) 49152 old o .is k zero-le h)
+    ∙ ap (λ (x : List ℕ). getD x k 0) (e ∙ frame-done l font S old (accepts-graphics l (length font) (length S) (length old) p g s o))
+    ∙ written-draws l font S old o k h)
 
 -- where no length is refused, all fits
 pub accepted : (look : Look) (strip frame : ℕ) → firstOf (lengthOrder look strip frame) (done (192 * width look)) .number ≡ 0 → Fits look strip frame

@@ -6,7 +6,7 @@ use mathlib.Core.List.{List}
 use mathlib.Core.Logic.{⊎-elim, _↔_}
 use native.Mathlib.Omega.{arith}
 use lib.Dec.{eqb}
-use lib.ListN.{getD, replicate, length-replicate}
+use lib.ListN.{length, getD, replicate, length-replicate}
 use borrow.Author.Tests.{eq-eqb, eqb-true}
 use Rattle.paper.specs.Written.{written, Filled}
 use Rattle.paper.proofs.Fills.{lt-or-ge, written-fills}
@@ -35,6 +35,13 @@ Draws l font S f = (k : ℕ) → k < 49152 → getD f k 0 ≡ picture l font S k
 -- the strip R is what is read off the frame f
 abbrev pub Reads : Look → List ℕ → List ℕ → Type 0
 Reads l f R = (i : ℕ) → i < 192 * width l → getD R i 0 ≡ readByte l f i
+
+-- a frame that holds the picture of a strip is drawn by it, and a strip that holds what is read is so read
+pub written-draws : (l : Look) (font S old : List ℕ) → 49152 ≤ length old → Draws l font S (written (picture l font S) 49152 old)
+written-draws l font S old h k m = written-fills (picture l font S) 49152 old h .is k zero-le m
+
+pub written-reads : (l : Look) (f old : List ℕ) → 192 * width l ≤ length old → Reads l f (written (readByte l f) (192 * width l) old)
+written-reads l f old h i m = written-fills (readByte l f) (192 * width l) old h .is i zero-le m
 
 both : (x y : Bool) → not (x && y) ≡ false → (x ≡ true) × (y ≡ true)
 both true true h = (refl, refl)
