@@ -1,28 +1,24 @@
 -- Reading back: document 01's order 1, 3, 7, 8, 9, and the strip afterwards.
 use Prim.Native.Nat.{ℕ, _*_, _≤_}
 use mathlib.Core.Path.{_≡_}
-use mathlib.Core.Bool.{true, not}
+use mathlib.Core.Bool.{true}
 use mathlib.Core.List.{List, [], _∷_, _++_}
 use lib.Dec.{eqb, ltb}
 use lib.ListN.{length}
 use Rattle.paper.specs.Choose.{choose}
-use Rattle.paper.specs.Told.{Told, told, done, refused}
+use Rattle.paper.specs.Told.{Told, told, done}
 use Rattle.paper.specs.Order.{Check, check, firstOf}
 use Rattle.paper.specs.Written.{written}
 use Rattle.settings.specs.declared.Look.{Look}
 use Rattle.settings.specs.Fields.{graphics}
 use Rattle.settings.specs.Modes.{width}
+use Rattle.settings.specs.Refusals.{pinsAbove, textBack, shortStrip, shortFrame}
 use Rattle.back.specs.Read.{readByte}
 use Rattle.back.specs.Stray.{firstStray}
 
 -- the refusals, by the look and the lengths of strip and frame
 unfoldable pub lengthOrder : Look → ℕ → ℕ → List Check
-lengthOrder look strip frame =
-    check (ltb 63 (look .pins)) (refused 1)
-    ∷ check (not (graphics look)) (refused 3)
-    ∷ check (ltb strip (192 * width look)) (refused 7)
-    ∷ check (ltb frame 49152) (refused 8)
-    ∷ []
+lengthOrder look strip frame = pinsAbove look ∷ textBack look ∷ shortStrip look strip ∷ shortFrame frame ∷ []
 
 -- then by the frame's pixels
 unfoldable pub strayOrder : Look → List ℕ → List Check

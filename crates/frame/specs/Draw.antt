@@ -1,28 +1,24 @@
 -- Drawing: document 01's order 1, 2, 6, 7, 8, and the frame afterwards.
 use Prim.Native.Nat.{ℕ, _*_, _≤_}
 use mathlib.Core.Path.{_≡_}
-use mathlib.Core.Bool.{false, not, _&&_}
+use mathlib.Core.Bool.{false}
 use mathlib.Core.List.{List, [], _∷_}
-use lib.Dec.{eqb, ltb}
+use lib.Dec.{eqb}
 use lib.ListN.{length}
 use Rattle.paper.specs.Choose.{choose}
-use Rattle.paper.specs.Told.{Told, done, refused}
-use Rattle.paper.specs.Order.{Check, check, firstOf}
+use Rattle.paper.specs.Told.{Told, done}
+use Rattle.paper.specs.Order.{Check, firstOf}
 use Rattle.paper.specs.Written.{written}
 use Rattle.settings.specs.declared.Look.{Look}
-use Rattle.settings.specs.Fields.{graphics, external}
+use Rattle.settings.specs.Fields.{graphics}
 use Rattle.settings.specs.Modes.{width, border, fontSize}
+use Rattle.settings.specs.Refusals.{pinsAbove, externalText, fontLength, shortStrip, shortFrame}
 use Rattle.pixel.specs.Picture.{picture}
 
 -- the refusals, by the look and the lengths of font, strip and frame
 unfoldable pub drawOrder : Look → ℕ → ℕ → ℕ → List Check
 drawOrder look font strip frame =
-    check (ltb 63 (look .pins)) (refused 1)
-    ∷ check (not (graphics look) && external look) (refused 2)
-    ∷ check (not (graphics look) && not (eqb font (fontSize look))) (refused 6)
-    ∷ check (ltb strip (192 * width look)) (refused 7)
-    ∷ check (ltb frame 49152) (refused 8)
-    ∷ []
+    pinsAbove look ∷ externalText look ∷ fontLength look font ∷ shortStrip look strip ∷ shortFrame frame ∷ []
 
 -- what is told: the first refusal that holds, else done with the border
 unfoldable pub drawTold : Look → ℕ → ℕ → ℕ → Told

@@ -38,3 +38,15 @@ module _ (other : Told) (done : other .number ≡ 0) where
   done-when (c ∷ cs) r =
       let s = both (ltb 0 (c .says .number)) (areRefusals cs) r in
       done-by (c .when) (c .says) cs (ltb→lt 0 (c .says .number) (s .0)) (done-when cs (s .1))
+
+  done-by-test : (b : Bool) (t : Told) (cs : List Check) → 0 < t .number → (firstOf cs other .number ≡ 0 → firstOf cs other ≡ other)
+      → choose b t (firstOf cs other) .number ≡ 0 → choose b t (firstOf cs other) ≡ other
+  done-by-test true t cs h e p = absurd (omega arith)
+  done-by-test false t cs h e p = e p
+
+  -- and then it says what is told of done
+  pub done-says : (cs : List Check) → T (areRefusals cs) → firstOf cs other .number ≡ 0 → firstOf cs other ≡ other
+  done-says [] r e = refl
+  done-says (c ∷ cs) r e =
+      let s = both (ltb 0 (c .says .number)) (areRefusals cs) r in
+      done-by-test (c .when) (c .says) cs (ltb→lt 0 (c .says .number) (s .0)) (done-says cs (s .1)) e

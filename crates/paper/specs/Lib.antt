@@ -5,3 +5,4 @@ pub mod Order
 pub mod First
 pub mod Written
 pub mod Fixes
+pub mod Part

@@ -2,4 +2,6 @@
 pub mod Masks
 pub mod Borders
 pub mod Widths
+pub mod Names
+pub mod Images
 pub mod Unique

@@ -38,6 +38,9 @@ use Rattle.settings.proofs.font_size.Reads as font-size
 use Rattle.settings.proofs.mode_name.{ended as mode-name-ended, clauses as mode-name-clauses}
 use Rattle.settings.proofs.mode_name.Key.{name as #mode-name}
 use Rattle.settings.proofs.mode_name.Reads as mode-name
+use Rattle.settings.proofs.image_fits.{ended as image-fits-ended, clauses as image-fits-clauses}
+use Rattle.settings.proofs.image_fits.Key.{name as #image-fits}
+use Rattle.settings.proofs.image_fits.Reads as image-fits
 
 abbrev pub video-mode-op : Operation
 video-mode-op = record { key = #video-mode; T = video-mode-ended; clauses = λ M. video-mode-clauses; Says = video-mode.Learnt; O = _; seen = λ κs. whole }
@@ -154,6 +157,16 @@ mode-name-op = record { key = #mode-name; T = mode-name-ended; clauses = λ M. m
 
 pub mode-name-fixes : Fixes mode-name-op
 mode-name-fixes = record {
+  takes-all = λ w κs a g. id⊢ (w .𝓤) (emp (w .𝓤));
+  tells = λ w κs a g z e. one-tells (w .𝓤) _;
+  one-outcome = λ κs a z z′ ws ws′ p q. (p ∙ sym q, refl);
+}
+
+abbrev pub image-fits-op : Operation
+image-fits-op = record { key = #image-fits; T = image-fits-ended; clauses = λ M. image-fits-clauses; Says = image-fits.Learnt; O = _; seen = λ κs. whole }
+
+pub image-fits-fixes : Fixes image-fits-op
+image-fits-fixes = record {
   takes-all = λ w κs a g. id⊢ (w .𝓤) (emp (w .𝓤));
   tells = λ w κs a g z e. one-tells (w .𝓤) _;
   one-outcome = λ κs a z z′ ws ws′ p q. (p ∙ sym q, refl);

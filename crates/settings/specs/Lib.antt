@@ -1,3 +1,4 @@
 -- What is read off the settings.
 pub mod Fields
 pub mod Modes
+pub mod Refusals

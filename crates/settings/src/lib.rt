@@ -2,6 +2,7 @@
 ghost use mathlib.Core.Path.{_≡_};
 ghost use Prim.Native.Nat.{_<_};
 ghost use Rattle.settings.specs.Fields.{bits, videoMode, offset, fast, graphics, external, gm, css};
+ghost use Rattle.settings.specs.Refusals.{imageFits};
 ghost use Rattle.settings.specs.Modes.{width, dots, border, fontSize, modeName, named};
 
 // The look of a frame: the pin byte, fixed for a frame.
@@ -141,5 +142,15 @@ pub fn mode_name(look: Look) -> Name
     Name {
         bytes: [b'A', 49 + (g % 4) as u8, 0],
         len: 2,
+    }
+}
+
+// Whether an image may have this length.
+pub fn image_fits(length: usize) -> bool
+    ensures { λ r. ⌜ r ≡ imageFits length ⌝ }
+{
+    match length {
+        4096 | 8192 | 16384 | 32768 | 65536 => true,
+        _ => false,
     }
 }

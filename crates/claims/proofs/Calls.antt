@@ -1,0 +1,34 @@
+-- What the contracts, as the source has them, allow of one call: the words in which the demands speak of calls.
+use Prim.Native.Nat.{ℕ}
+use mathlib.Core.List.{List}
+use contract.Lifetimes.{Lfts}
+use denote.Ref.{RefT}
+use Rattle.paper.specs.Fixes.{Allows}
+use Rattle.answer.specs.declared.Answer.{Answer}
+use Rattle.settings.specs.declared.Look.{Look}
+use Rattle.settings.specs.declared.Settings.{Settings}
+use Rattle.control.proofs.Unique.{play-op}
+use Rattle.strip.proofs.Unique.{fetch-op}
+use Rattle.frame.proofs.Unique.{draw-op}
+use Rattle.screen.proofs.Unique.{show-op}
+
+-- a lent buffer
+abbrev pub Lent : Type 0
+Lent = RefT (List ℕ)
+
+-- `play` with this word and these writes may answer z
+abbrev pub Plays : Lfts 1 → ℕ → Lent → Answer → Type 0
+Plays κs word writes z = Allows play-op κs (word, (writes, tt)) z (tt, (tt, tt))
+
+-- `fetch` may answer z and leave `out` in the strip
+abbrev pub Fetches : Lfts 2 → Settings → Lent → Lent → Answer → List ℕ → Type 0
+Fetches κs s image strip z out = Allows fetch-op κs (s, (image, (strip, tt))) z (tt, (tt, (out, tt)))
+
+-- `draw` may answer z and leave `out` in the frame
+abbrev pub Draws : Lfts 3 → Look → Lent → Lent → Lent → Answer → List ℕ → Type 0
+Draws κs l font strip frame z out = Allows draw-op κs (l, (font, (strip, (frame, tt)))) z (tt, (tt, (tt, (out, tt))))
+
+-- `show` may answer z and leave `bytes` in the strip and `pixels` in the frame
+abbrev pub Shows : Lfts 4 → Settings → Lent → Lent → Lent → Lent → Answer → List ℕ → List ℕ → Type 0
+Shows κs s image font strip frame z bytes pixels =
+    Allows show-op κs (s, (image, (font, (strip, (frame, tt))))) z (tt, (tt, (tt, (bytes, (pixels, tt)))))

@@ -1,0 +1,111 @@
+-- Demand 1. "Every entry point takes all bytes and numbers, ends, and refuses bad input by itself, with a number and a place, writing no
+-- lent byte. A success writes only the part that is named." That every input is taken is `all-fix` of Operations; that each call ends comes
+-- with the proof of its function.
+use Prim.Native.Nat.{ℕ, _≤_, _<_}
+use mathlib.Core.Path.{_≡_, refl, sym, ap, _∙_}
+use mathlib.Core.Bool.{Bool, true, false}
+use mathlib.Core.List.{List}
+use mathlib.Core.Logic.{_↔_}
+use contract.Lifetimes.{Lfts}
+use denote.Ref.{now}
+use lib.Dec.{T, eqb}
+use lib.ListN.{length, getD}
+use borrow.Author.Tests.{eqb-true}
+use Rattle.paper.specs.Told.{Told, done}
+use Rattle.paper.specs.Order.{Check, firstOf, HoldsFirst, NoneHolds, areRefusals}
+use Rattle.paper.specs.Written.{written}
+use Rattle.paper.proofs.Orders.{given-when, done-when}
+use Rattle.paper.proofs.Fills.{written-fills, length-written}
+use Rattle.answer.specs.declared.Answer.{Answer}
+use Rattle.answer.specs.Told.{toldOf}
+use Rattle.settings.specs.declared.Look.{Look}
+use Rattle.settings.specs.declared.Settings.{Settings}
+use Rattle.settings.specs.Modes.{border}
+use Rattle.settings.specs.Refusals.{stripLength, frameLength}
+use Rattle.control.specs.Control.{played, playOrder, playTold}
+use Rattle.strip.specs.Fetch.{fetchedByte, fetchOrder, fetchTold, stripAfter}
+use Rattle.strip.proofs.Fetches.{accepted as fetch-accepted, strip-done, strip-refused, strip-same-length}
+use Rattle.pixel.specs.Picture.{picture}
+use Rattle.frame.specs.Draw.{drawOrder, drawTold}
+use Rattle.frame.proofs.Draws.{accepted as draw-accepted, frame-done, frame-refused}
+use Rattle.screen.specs.Show.{showOrder, showTold}
+use Rattle.screen.proofs.Shows.{fetch-done, draw-done, shown-done, shown-refused}
+use Rattle.claims.proofs.Calls.{Lent, Plays, Fetches, Draws, Shows}
+
+-- what is told is what the order says: each number exactly when its condition holds and none earlier does, done exactly when none does
+pub record Ordered (told : Told) (order : List Check) (value : ℕ) : Type 0 where
+  pub says : told ≡ firstOf order (done value)
+  pub each : (n : ℕ) → 0 < n → (told .number ≡ n) ↔ HoldsFirst n order
+  pub done-if : (told .number ≡ 0) ↔ NoneHolds order
+
+-- a refusal leaves the buffer as it was; a success keeps its length and every byte from the named length on
+pub record Guarded (told : Told) (named : ℕ) (old new : List ℕ) : Type 0 where
+  pub refused : (told .number ≡ 0 → ⊥) → new ≡ old
+  pub long : length new ≡ length old
+  pub past : (k : ℕ) → named ≤ k → getD new k 0 ≡ getD old k 0
+
+ordered : {told : Told} (order : List Check) (value : ℕ) → T (areRefusals order) → told ≡ firstOf order (done value) → Ordered told order value
+ordered order value r e =
+    record { says = e; each = λ n h. rw e (given-when (done value) refl n h order); done-if = rw e (done-when (done value) refl order r) }
+
+-- a buffer that is written where the answer is done, and left where it is not
+guarded : {told : Told} (g : ℕ → ℕ) (named : ℕ) (old : List ℕ) {new : List ℕ} → (told .number ≡ 0 → (named ≤ length old) × (new ≡ written g named old))
+    → (eqb (told .number) 0 ≡ false → new ≡ old) → Guarded told named old new
+guarded {told} g named old {new} wrote left = by (eqb (told .number) 0) refl
+  where
+    by : (b : Bool) → eqb (told .number) 0 ≡ b → Guarded told named old new
+    by true t =
+        let n : told .number ≡ 0 = eqb-true (told .number) 0 t in
+        let f = written-fills g named old (wrote n .0) in
+        record { refused = λ no. absurd (no n); long = rw (wrote n .1) (f .long); past = λ k h. rw (wrote n .1) (f .after k h) }
+    by false t = record { refused = λ no. left t; long = rw (left t); past = λ k h. rw (left t) }
+
+-- play lends nothing that it could write
+pub play-demand : (κs : Lfts 1) (word : ℕ) (writes : Lent) (z : Answer) → Plays κs word writes z
+    → Ordered (toldOf z) (playOrder word (now writes)) (played word (now writes))
+unfolding playTold
+play-demand κs word writes z p = ordered (playOrder word (now writes)) (played word (now writes)) tt p
+
+pub fetch-demand : (κs : Lfts 2) (s : Settings) (image strip : Lent) (z : Answer) (out : List ℕ) → Fetches κs s image strip z out
+    → Ordered (toldOf z) (fetchOrder s (length (now image)) (length (now strip))) (stripLength (s .look)) × Guarded (toldOf z) (stripLength (s .look)) (now strip) out
+unfolding fetchTold
+fetch-demand κs s image strip z out p = (
+  ordered (fetchOrder s (length (now image)) (length (now strip))) (stripLength (s .look)) tt (p .0),
+  guarded (fetchedByte s (now image)) (stripLength (s .look)) (now strip)
+      (λ e. let d = rw (p .0) at e in (fetch-accepted s (length (now image)) (length (now strip)) d .1, p .1 ∙ strip-done s (now image) (now strip) d))
+      (λ e. p .1 ∙ strip-refused s (now image) (now strip) (rw (p .0) at e)),
+)
+
+pub draw-demand : (κs : Lfts 3) (l : Look) (font strip frame : Lent) (z : Answer) (out : List ℕ) → Draws κs l font strip frame z out
+    → Ordered (toldOf z) (drawOrder l (length (now font)) (length (now strip)) (length (now frame))) (border l) × Guarded (toldOf z) frameLength (now frame) out
+unfolding drawTold drawOrder
+draw-demand κs l font strip frame z out p = (
+  ordered (drawOrder l (length (now font)) (length (now strip)) (length (now frame))) (border l) tt (p .0),
+  guarded (picture l (now font) (now strip)) frameLength (now frame)
+      (λ e. let d = rw (p .0) at e in (draw-accepted l (length (now font)) (length (now strip)) (length (now frame)) d .frame-long, p .1 ∙ frame-done l (now font) (now strip) (now frame) d))
+      (λ e. p .1 ∙ frame-refused l (now font) (now strip) (now frame) (rw (p .0) at e)),
+)
+
+-- both buffers of both at once
+pub show-demand : (κs : Lfts 4) (s : Settings) (image font strip frame : Lent) (z : Answer) (bytes pixels : List ℕ) → Shows κs s image font strip frame z bytes pixels
+    → Ordered (toldOf z) (showOrder s (length (now image)) (length (now font)) (length (now strip)) (length (now frame))) (border (s .look))
+    × Guarded (toldOf z) (stripLength (s .look)) (now strip) bytes
+    × Guarded (toldOf z) frameLength (now frame) pixels
+unfolding showTold
+show-demand κs s image font strip frame z bytes pixels p = (
+  ordered (showOrder s (length (now image)) (length (now font)) (length (now strip)) (length (now frame))) (border (s .look)) tt (p .0),
+  guarded (fetchedByte s (now image)) (stripLength (s .look)) (now strip)
+      (λ e. let d = rw (p .0) at e in
+      let f = fetch-done s (length (now image)) (length (now font)) (length (now strip)) (length (now frame)) d in
+      (fetch-accepted s (length (now image)) (length (now strip)) f .1, p .1 .0 ∙ shown-done s (now image) (now font) (now strip) (now frame) _ _ d ∙ strip-done s (now image) (now strip) f))
+      (λ e. p .1 .0 ∙ shown-refused s (now image) (now font) (now strip) (now frame) _ _ (rw (p .0) at e)),
+  guarded (picture (s .look) (now font) (stripAfter s (now image) (now strip))) frameLength (now frame)
+      (λ e. let d = rw (p .0) at e in
+      let long : length (stripAfter s (now image) (now strip)) ≡ length (now strip) = strip-same-length s (now image) (now strip) in
+      let f : drawTold (s .look) (length (now font)) (length (stripAfter s (now image) (now strip))) (length (now frame)) .number ≡ 0 =
+      rw long (draw-done s (length (now image)) (length (now font)) (length (now strip)) (length (now frame)) d) in (
+        draw-accepted (s .look) (length (now font)) (length (stripAfter s (now image) (now strip))) (length (now frame)) f .frame-long,
+        p .1 .1 ∙ shown-done s (now image) (now font) (now strip) (now frame) _ _ d ∙ frame-done (s .look) (now font) (stripAfter s (now image) (now strip)) (now frame) f,
+      ))
+      (λ e. p .1 .1 ∙ shown-refused s (now image) (now font) (now strip) (now frame) _ _ (rw (p .0) at e)),
+)

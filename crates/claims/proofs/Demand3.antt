@@ -1,0 +1,94 @@
+-- Demand 3. "Only bytes in the window are felt: images that agree at the fetched places give the same answer, strip and frame; where they
+-- differ at a fetched place, each fetch of it differs in the strip and, in graphics, in its pixels, and nothing else does."
+-- Stated once over all settings, of any two calls that the contract of `show` allows, with the same settings, font and buffers.
+use Prim.Native.Nat.{ℕ, _<_, _≤_}
+use mathlib.Core.Path.{_≡_, refl, sym, ap, _∙_}
+use mathlib.Core.Bool.{true}
+use mathlib.Core.List.{List}
+use mathlib.Core.Logic.{_↔_}
+use contract.Lifetimes.{Lfts}
+use denote.Ref.{now}
+use lib.ListN.{length, getD}
+use Rattle.answer.specs.declared.Answer.{Answer}
+use Rattle.answer.specs.Told.{toldOf}
+use Rattle.answer.proofs.Answers.{one-answer}
+use Rattle.settings.specs.declared.Settings.{Settings}
+use Rattle.settings.specs.Fields.{graphics}
+use Rattle.settings.specs.Refusals.{stripLength, frameLength}
+use Rattle.strip.specs.Fetch.{fetchPlace, Fetched, stripAfter, fetchedByte}
+use Rattle.strip.proofs.Windows.{same-strip}
+use Rattle.pixel.specs.Picture.{owner, picture}
+use Rattle.pixel.proofs.Owners.{owner-below, depends}
+use Rattle.pixel.proofs.Shows.{shows}
+use Rattle.frame.specs.Draw.{frameAfter}
+use Rattle.screen.specs.Show.{showTold, shown}
+use Rattle.claims.proofs.Calls.{Lent, Shows}
+use Rattle.claims.proofs.Demand1.{show-demand}
+use Rattle.claims.proofs.Demand2.{Done, shown-byte, shown-pixel}
+
+-- what a lent slice of bytes holds
+abbrev pub Bytes : List ℕ → Type 0
+Bytes l = (k : ℕ) → getD l k 0 < 256
+
+module _
+    (s : Settings)
+    (κs κs′ : Lfts 4) (image image′ font font′ strip strip′ frame frame′ : Lent)
+    (long : length (now image) ≡ length (now image′)) (same-font : now font ≡ now font′) (same-strips : now strip ≡ now strip′) (same-frames : now frame ≡ now frame′)
+    (z z′ : Answer) (bytes bytes′ pixels pixels′ : List ℕ)
+    (p : Shows κs s image font strip frame z bytes pixels) (q : Shows κs′ s image′ font′ strip′ frame′ z′ bytes′ pixels′)
+  where
+    same-answer : z ≡ z′
+    same-answer = one-answer (p .0) (q .0 ∙ rw (long, same-font, same-strips, same-frames))
+
+    -- First half: images that agree at the fetched places give the same answer, strip and frame.
+    pub window : ((a : ℕ) → Fetched s (length (now image)) a → getD (now image) a 0 ≡ getD (now image′) a 0) → (z ≡ z′) × (bytes ≡ bytes′) × (pixels ≡ pixels′)
+    unfolding shown
+    window agree =
+        let e : stripAfter s (now image) (now strip) ≡ stripAfter s (now image′) (now strip) = same-strip s (now image) (now image′) (now strip) long agree in
+        (same-answer, p .1 .0 ∙ rw (e, long, same-font, same-strips, same-frames) (sym (q .1 .0)), p .1 .1 ∙ rw (e, long, same-font, same-strips, same-frames) (sym (q .1 .1)))
+
+    -- Second half, where the calls are done. The place of fetch k is the same in both images.
+    module _ (d : Done z) where
+      d′ : Done z′
+      d′ = rw same-answer at d
+
+      byte : (k : ℕ) → k < stripLength (s .look) → getD bytes k 0 ≡ getD (now image) (fetchPlace s (length (now image)) k) 0
+      byte = shown-byte κs s image font strip frame z bytes pixels p d
+
+      byte′ : (k : ℕ) → k < stripLength (s .look) → getD bytes′ k 0 ≡ getD (now image′) (fetchPlace s (length (now image)) k) 0
+      byte′ k h = rw long (shown-byte κs′ s image′ font′ strip′ frame′ z′ bytes′ pixels′ q d′ k h)
+
+      pixel : (n : ℕ) → n < frameLength → getD pixels n 0 ≡ picture (s .look) (now font) bytes n
+      pixel = shown-pixel κs s image font strip frame z bytes pixels p d
+
+      pixel′ : (n : ℕ) → n < frameLength → getD pixels′ n 0 ≡ picture (s .look) (now font) bytes′ n
+      pixel′ n h = shown-pixel κs′ s image′ font′ strip′ frame′ z′ bytes′ pixels′ q d′ n h ∙ ap (λ (f : List ℕ). picture (s .look) f bytes′ n) (sym same-font)
+
+      -- a strip byte differs exactly where the images differ at the place of its fetch
+      pub differs-in-strip : (k : ℕ) → k < stripLength (s .look)
+          → (getD bytes k 0 ≡ getD bytes′ k 0) ↔ (getD (now image) (fetchPlace s (length (now image)) k) 0 ≡ getD (now image′) (fetchPlace s (length (now image)) k) 0)
+      differs-in-strip k h = (λ e. sym (byte k h) ∙ e ∙ byte′ k h, λ e. byte k h ∙ e ∙ sym (byte′ k h))
+
+      -- in graphics it differs in at least one pixel that the fetch draws
+      pub differs-in-frame : graphics (s .look) ≡ true → Bytes (now image) → Bytes (now image′) → (k : ℕ) → k < stripLength (s .look)
+          → (getD (now image) (fetchPlace s (length (now image)) k) 0 ≡ getD (now image′) (fetchPlace s (length (now image)) k) 0 → ⊥)
+          → (n : ℕ) × (n < frameLength) × (owner (s .look) n ≡ k) × (getD pixels n 0 ≡ getD pixels′ n 0 → ⊥)
+      differs-in-frame g small small′ k h differ =
+          let w = shows (s .look) (now font) bytes bytes′ g k h (rw (byte k h) (small _)) (rw (byte′ k h) (small′ _)) (λ e. differ (differs-in-strip k h .0 e)) in
+          (w .0, w .1, w .2, λ e. w .3 (sym (pixel (w .0) (w .1)) ∙ e ∙ pixel′ (w .0) (w .1)))
+
+      -- nothing else does: a pixel whose own fetch agrees is the same, in every mode
+      pub same-elsewhere : (n : ℕ) → n < frameLength
+          → getD (now image) (fetchPlace s (length (now image)) (owner (s .look) n)) 0 ≡ getD (now image′) (fetchPlace s (length (now image)) (owner (s .look) n)) 0
+          → getD pixels n 0 ≡ getD pixels′ n 0
+      same-elsewhere n h e =
+          pixel n h
+          ∙ depends (s .look) (now font) bytes bytes′ n (differs-in-strip (owner (s .look) n) (owner-below (s .look) n h) .1 e)
+          ∙ sym (pixel′ n h)
+
+    -- and what lies past the named lengths is the same too
+    pub same-past : ((k : ℕ) → stripLength (s .look) ≤ k → getD bytes k 0 ≡ getD bytes′ k 0) × ((n : ℕ) → frameLength ≤ n → getD pixels n 0 ≡ getD pixels′ n 0)
+    same-past =
+        let a = show-demand κs s image font strip frame z bytes pixels p in
+        let b = show-demand κs′ s image′ font′ strip′ frame′ z′ bytes′ pixels′ q in
+        (λ k h. a .1 .past k h ∙ rw same-strips (sym (b .1 .past k h)), λ n h. a .2 .past n h ∙ rw same-frames (sym (b .2 .past n h)))

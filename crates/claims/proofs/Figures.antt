@@ -1,0 +1,81 @@
+-- Document 01, "Figures to check by": the figures marked P, as one list with a single claim over it, about the definitions.
+use Prim.Native.Nat.{ℕ, zero, suc}
+use mathlib.Core.Bool.{Bool, true, false, _&&_}
+use mathlib.Core.List.{List, [], _∷_, _++_}
+use lib.Dec.{T, eqb}
+use Rattle.paper.specs.Told.{Told}
+use Rattle.settings.specs.declared.Settings.{Settings}
+use Rattle.settings.specs.Modes.{width, dots as elementDots}
+use Rattle.counter.specs.Counter.{addressOf, lineStart, bytesOn, advance, carry, clear, start}
+use Rattle.pixel.specs.Dots.{bit, oneBit, twoBits}
+use Rattle.pixel.specs.Graphics.{element, graphic}
+use Rattle.pixel.specs.Text.{lit, ink, block, letter, pattern, inverted}
+use Rattle.pixel.specs.Picture.{pixel}
+use Rattle.control.specs.Control.{withBit, wordAfter, played, firstElsewhere, playTold}
+
+-- what the definitions give, and what the paper says
+pub record Figure : Type 0 where
+  pub given : List ℕ
+  pub paper : List ℕ
+
+abbrev figure : List ℕ → List ℕ → Figure
+figure g p = record { given = g; paper = p }
+
+abbrev same : List ℕ → List ℕ → Bool
+same [] [] = true
+same [] (y ∷ ys) = false
+same (x ∷ xs) [] = false
+same (x ∷ xs) (y ∷ ys) = eqb x y && same xs ys
+
+abbrev allRight : List Figure → Bool
+allRight [] = true
+allRight (f ∷ fs) = same (f .given) (f .paper) && allRight fs
+
+-- what is told, as numbers
+abbrev numbers : Told → List ℕ
+numbers t = t .number ∷ t .place ∷ t .value ∷ []
+
+-- settings by their word and pin byte; CG1, RG6 and text with CSS 0
+abbrev settings : ℕ → ℕ → Settings
+settings w p = record { word = w; look = record { pins = p } }
+
+abbrev cg1 : ℕ
+cg1 = 0x20
+
+abbrev rg6 : ℕ
+rg6 = 0x2E
+
+abbrev text : ℕ
+text = 0x00
+
+-- RG6 with CSS 1
+abbrev rg6buff : ℕ
+rg6buff = 0x2F
+
+-- the first n dots of a byte on a line, the font empty
+abbrev dots : ℕ → ℕ → ℕ → ℕ → List ℕ
+dots p b line zero = []
+dots p b line (suc n) = dots p b line n ++ (pixel (record { pins = p }) [] b line n ∷ [])
+
+pub figures : List Figure
+figures =
+    -- P1 to P4: writes played
+    figure (numbers (playTold 0x0000 (0xFFC1 ∷ 0xFFC9 ∷ 0xFFD6 ∷ []))) (0 ∷ 0 ∷ 0x0011 ∷ [])
+    ∷ figure (numbers (playTold 0x0000 (0xFFDF ∷ []))) (0 ∷ 0 ∷ 0x8000 ∷ [])
+    ∷ figure (numbers (playTold 0xFFFF (0xFFC0 ∷ []))) (0 ∷ 0 ∷ 0xFFFE ∷ [])
+    ∷ figure (numbers (playTold 0x0000 (0xFFC1 ∷ 0xFFBF ∷ []))) (10 ∷ 1 ∷ 0x0000 ∷ [])
+    -- P5 to P9: addresses
+    ∷ figure (addressOf (settings 0x0011 cg1) 2 15 ∷ addressOf (settings 0x0011 cg1) 3 0 ∷ addressOf (settings 0x0011 cg1) 191 15 ∷ []) (0x040F ∷ 0x0410 ∷ 0x07FF ∷ [])
+    ∷ figure (addressOf (settings 0x0000 text) 12 0 ∷ addressOf (settings 0x0000 text) 191 31 ∷ []) (0x0020 ∷ 0x01FF ∷ [])
+    ∷ figure (addressOf (settings 0x03FE rg6) 15 31 ∷ addressOf (settings 0x03FE rg6) 16 0 ∷ []) (0xFFFF ∷ 0x0000 ∷ [])
+    ∷ figure (addressOf (settings 0x0000 cg1) 100 0 ∷ []) (0x0000 ∷ [])
+    ∷ figure (addressOf (settings 0x0001 text) 0 16 ∷ addressOf (settings 0x0001 text) 1 16 ∷ []) (0x0000 ∷ 0x0010 ∷ [])
+    -- P10 to P12: the dots of a byte
+    ∷ figure (dots cg1 0x1B 0 16) (0 ∷ 0 ∷ 0 ∷ 0 ∷ 1 ∷ 1 ∷ 1 ∷ 1 ∷ 2 ∷ 2 ∷ 2 ∷ 2 ∷ 3 ∷ 3 ∷ 3 ∷ 3 ∷ [])
+    ∷ figure (dots rg6buff 0xA5 0 8) (4 ∷ 8 ∷ 4 ∷ 8 ∷ 8 ∷ 4 ∷ 8 ∷ 4 ∷ [])
+    ∷ figure (dots text 0xB9 5 8 ++ dots text 0xB9 6 8) (3 ∷ 3 ∷ 3 ∷ 3 ∷ 8 ∷ 8 ∷ 8 ∷ 8 ∷ 8 ∷ 8 ∷ 8 ∷ 8 ∷ 3 ∷ 3 ∷ 3 ∷ 3 ∷ [])
+    ∷ []
+
+pub figures-right : T (allRight figures)
+unfolding figures playTold played firstElsewhere wordAfter withBit addressOf lineStart bytesOn advance carry clear start width elementDots pixel graphic element oneBit bit twoBits lit ink block letter pattern inverted
+figures-right = tt

@@ -1,0 +1,110 @@
+-- Every public operation of every library, in one list: its contract, as the source has it, takes every input and allows one outcome.
+use mathlib.Core.Path.{_≡_, refl}
+use mathlib.Core.List.{List, [], _∷_, map}
+use Rattle.paper.specs.Fixes.{Operation, AllFix, none, _&_}
+use Rattle.answer.proofs.Unique as answer
+use Rattle.settings.proofs.Unique as settings
+use Rattle.control.proofs.Unique as control
+use Rattle.counter.proofs.Unique as counter
+use Rattle.strip.proofs.Unique as strip
+use Rattle.frame.proofs.Unique as frame
+use Rattle.screen.proofs.Unique as screen
+use Rattle.sheet.proofs.Unique as sheet
+
+abbrev pub operations : List Operation
+operations =
+    answer.number-op
+    ∷ answer.place-op
+    ∷ answer.value-op
+    ∷ settings.video-mode-op
+    ∷ settings.offset-op
+    ∷ settings.fast-op
+    ∷ settings.graphics-op
+    ∷ settings.external-op
+    ∷ settings.gm-op
+    ∷ settings.css-op
+    ∷ settings.width-op
+    ∷ settings.dots-op
+    ∷ settings.border-op
+    ∷ settings.font-size-op
+    ∷ settings.mode-name-op
+    ∷ settings.image-fits-op
+    ∷ control.play-op
+    ∷ counter.first-op
+    ∷ counter.pass-op
+    ∷ counter.step-op
+    ∷ counter.line-end-op
+    ∷ strip.fetch-op
+    ∷ frame.draw-op
+    ∷ screen.show-op
+    ∷ sheet.read-op
+    ∷ sheet.deed-op
+    ∷ sheet.annotation-op
+    ∷ sheet.tail-op
+    ∷ []
+
+-- each of them takes every input and fixes its outcome
+pub all-fix : AllFix operations
+all-fix =
+    answer.number-fixes
+    & answer.place-fixes
+    & answer.value-fixes
+    & settings.video-mode-fixes
+    & settings.offset-fixes
+    & settings.fast-fixes
+    & settings.graphics-fixes
+    & settings.external-fixes
+    & settings.gm-fixes
+    & settings.css-fixes
+    & settings.width-fixes
+    & settings.dots-fixes
+    & settings.border-fixes
+    & settings.font-size-fixes
+    & settings.mode-name-fixes
+    & settings.image-fits-fixes
+    & control.play-fixes
+    & counter.first-fixes
+    & counter.pass-fixes
+    & counter.step-fixes
+    & counter.line-end-fixes
+    & strip.fetch-fixes
+    & frame.draw-fixes
+    & screen.show-fixes
+    & sheet.read-fixes
+    & sheet.deed-fixes
+    & sheet.annotation-fixes
+    & sheet.tail-fixes
+    & none
+
+-- the functions that the list is of, by the names that the compiler has for them
+pub named : map (λ o. o .key) operations
+    ≡ "answer::number"
+    ∷ "answer::place"
+    ∷ "answer::value"
+    ∷ "settings::video_mode"
+    ∷ "settings::offset"
+    ∷ "settings::fast"
+    ∷ "settings::graphics"
+    ∷ "settings::external"
+    ∷ "settings::gm"
+    ∷ "settings::css"
+    ∷ "settings::width"
+    ∷ "settings::dots"
+    ∷ "settings::border"
+    ∷ "settings::font_size"
+    ∷ "settings::mode_name"
+    ∷ "settings::image_fits"
+    ∷ "control::play"
+    ∷ "counter::first"
+    ∷ "counter::Counter::pass"
+    ∷ "counter::Counter::step"
+    ∷ "counter::Counter::line_end"
+    ∷ "strip::fetch"
+    ∷ "frame::draw"
+    ∷ "screen::show"
+    ∷ "sheet::read"
+    ∷ "sheet::deed"
+    ∷ "sheet::annotation"
+    ∷ "sheet::tail"
+    ∷ []
+named = refl

@@ -1,0 +1,65 @@
+-- A turn of `play`: what the whole list comes to is what the rest comes to from here.
+use Prim.Native.Nat.{ℕ, _+_, _≤_, _<_}
+use mathlib.Core.Path.{_≡_, refl, sym, ap, _∙_}
+use mathlib.Core.Bool.{Bool, true, false}
+use mathlib.Core.List.{List, [], _∷_, _++_}
+use native.Mathlib.Nat.{add-zero}
+use native.Mathlib.Numerals.{add-one}
+use native.Mathlib.Omega.{arith}
+use borrow.Author.Tests.{lt-ltb, le-ltb}
+use lib.ListN.{length, drop, getD, drop-of-length-le}
+use lib.Seq.{drop-cons}
+use Rattle.paper.specs.Told.{Told, told, done}
+use Rattle.control.specs.Control.{withBit, isControl, wordAfter, played, firstElsewhere, playTold}
+use Rattle.control.proofs.Picks.{Control}
+
+-- i writes of the list are played, and `now` is the word after them
+pub record Upto (word : ℕ) (writes : List ℕ) (i now : ℕ) : Type 0 where
+  pub within : i ≤ length writes
+  pub word-after : played word writes ≡ played now (drop i writes)
+  pub none-yet : firstElsewhere writes ≡ i + firstElsewhere (drop i writes)
+
+module _ (word : ℕ) (writes : List ℕ) where
+  pub from-start : Upto word writes 0 word
+  from-start = record { within = omega arith; word-after = refl; none-yet = omega arith }
+
+  module _ (i now : ℕ) (u : Upto word writes i now) (h : i < length writes) where
+    abbrev a : ℕ
+    a = getD writes i 0
+
+    rest : drop i writes ≡ a ∷ drop (i + 1) writes
+    rest = rw (add-one, drop-cons writes i 0)
+
+    -- one write more
+    pub turn : {k b : ℕ} → Control a k b → Upto word writes (i + 1) (withBit now k b)
+    unfolding played firstElsewhere wordAfter
+    turn {k} {b} p =
+        let e : played word writes ≡ played now (a ∷ drop (i + 1) writes) = u .word-after ∙ ap (played now) rest in
+        let f : firstElsewhere writes ≡ i + firstElsewhere (a ∷ drop (i + 1) writes) = u .none-yet ∙ ap (λ (l : List ℕ). i + firstElsewhere l) rest in
+        record {
+          within = omega arith;
+          word-after = rw (p .bit, p .value) e;
+          none-yet = let g = rw (p .control) at f in omega arith;
+        }
+
+    -- the write at i is the first elsewhere
+    pub stop : isControl a ≡ false → told 10 i word ≡ playTold word writes
+    unfolding playTold firstElsewhere
+    stop n =
+        let f : firstElsewhere writes ≡ i + firstElsewhere (a ∷ drop (i + 1) writes) = u .none-yet ∙ ap (λ (l : List ℕ). i + firstElsewhere l) rest in
+        let g : firstElsewhere writes ≡ i = rw n at f ∙ add-zero i in
+        simp (g, lt-ltb i (length writes) h)
+
+  -- past the last write
+  pub at-end : (i now : ℕ) → Upto word writes i now → length writes ≤ i → done now ≡ playTold word writes
+  unfolding playTold firstElsewhere played
+  at-end i now u h =
+      let e : played word writes ≡ now = rw (drop-of-length-le writes h) at (u .word-after) in
+      let f : firstElsewhere writes ≡ i = rw (drop-of-length-le writes h) at (u .none-yet) ∙ add-zero i in
+      simp (f, le-ltb i (length writes) h, e)
+
+-- a list one longer is one write more
+pub played-more : (w : ℕ) (writes : List ℕ) (a : ℕ) → played w (writes ++ (a ∷ [])) ≡ wordAfter (played w writes) a
+unfolding played
+played-more w [] a = refl
+played-more w (b ∷ writes) a = played-more (wordAfter w b) writes a

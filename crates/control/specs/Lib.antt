@@ -1,0 +1,2 @@
+-- Control writes and what they do.
+pub mod Control

@@ -1,0 +1,7 @@
+-- The laws of the counter, and that the contracts fix their outcomes.
+pub mod Wraps
+pub mod Tables
+pub mod Walks
+pub mod Runs
+pub mod Shifts
+pub mod Unique

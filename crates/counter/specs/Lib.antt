@@ -1,0 +1,2 @@
+-- The counter and the addresses that it gives.
+pub mod Counter

@@ -1,0 +1,98 @@
+// The SAM's video address counter.
+use settings::Settings;
+ghost use mathlib.Core.Path.{_≡_};
+ghost use Rattle.counter.specs.Counter.{start, carry, advance, clear};
+
+// The address bits B0-B15, and the counts of the X and Y dividers.
+pub struct Counter {
+    pub address: u16,
+    pub x: u8,
+    pub y: u8,
+}
+
+const X: [usize; 8] = [1, 3, 1, 2, 1, 1, 1, 1];
+
+const Y: [usize; 8] = [12, 1, 3, 1, 2, 1, 1, 1];
+
+// The lowest bit that a line's end keeps above B0.
+const KEPT: [u16; 8] = [5, 4, 5, 4, 5, 4, 5, 1];
+
+// The counter before a frame's first byte.
+pub fn first(settings: Settings) -> Counter
+    ensures { λ r. ⌜ r ≡ start settings ⌝ }
+{
+    Counter {
+        address: settings::offset(settings) * 512,
+        x: 0,
+        y: 0,
+    }
+}
+
+impl Counter {
+    // The counter where B0-B3 pass 15: they return to 0, and the dividers count.
+    pub fn pass(self, settings: Settings) -> Counter
+        ensures { λ r. ⌜ r ≡ carry settings self ⌝ }
+    {
+        let v = settings::video_mode(settings);
+        let run = self.address / 16 * 16;
+        let next = std::num::wrapping_add_u16(run, 16);
+        let x = self.x;
+        let y = self.y;
+        if (x as usize) + 1 < X[v] {
+            return Counter {
+                address: run,
+                x: x + 1,
+                y: y,
+            };
+        }
+        // B4 rises
+        if run % 32 == 0 {
+            return Counter {
+                address: next,
+                x: 0,
+                y: y,
+            };
+        }
+        if (y as usize) + 1 < Y[v] {
+            return Counter {
+                address: run - 16,
+                x: 0,
+                y: y + 1,
+            };
+        }
+        Counter {
+            address: next,
+            x: 0,
+            y: 0,
+        }
+    }
+
+    // The counter after one byte.
+    pub fn step(self, settings: Settings) -> Counter
+        ensures { λ r. ⌜ r ≡ advance settings self ⌝ }
+    {
+        let address = self.address;
+        if address % 16 == 15 {
+            return self.pass(settings);
+        }
+        Counter {
+            address: std::num::wrapping_add_u16(address, 1),
+            x: self.x,
+            y: self.y,
+        }
+    }
+
+    // The counter after a line's last byte.
+    pub fn line_end(self, settings: Settings) -> Counter
+        ensures { λ r. ⌜ r ≡ clear settings self ⌝ }
+    {
+        let v = settings::video_mode(settings);
+        let kept = KEPT[v];
+        let address = self.address;
+        Counter {
+            address: ((address >> kept) << kept) + address % 2,
+            x: self.x,
+            y: self.y,
+        }
+    }
+}

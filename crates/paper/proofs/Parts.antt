@@ -1,0 +1,11 @@
+-- The law of parts: what a part of a lent slice holds and where it lies is fixed by its numbers.
+use Prim.Native.Nat.{ℕ}
+use mathlib.Core.Path.{_≡_, sym, _∙_}
+use mathlib.Core.List.{List}
+use denote.Ref.{RefT}
+use Rattle.paper.specs.Fixes.{placed}
+use Rattle.paper.specs.Part.{PartOf}
+
+-- two parts by the same numbers hold the same and lie at the same place
+pub one-part : {lent part part′ : RefT (List ℕ)} {from count : ℕ} → PartOf lent part from count → PartOf lent part′ from count → placed part ≡ placed part′
+one-part p q = λ i. (((p .block ∙ sym (q .block)) i, (p .offset ∙ sym (q .offset)) i), (p .bytes ∙ sym (q .bytes)) i)

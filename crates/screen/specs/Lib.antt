@@ -1,0 +1,2 @@
+-- What both at once answers and leaves.
+pub mod Show

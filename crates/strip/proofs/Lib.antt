@@ -1,0 +1,6 @@
+-- The laws of fetching, and that the contract fixes its outcome.
+pub mod Places
+pub mod Walks
+pub mod Fetches
+pub mod Windows
+pub mod Unique

@@ -1,0 +1,18 @@
+-- Every public operation of `strip`: its contract, as the source has it, takes every input and allows one outcome.
+use mathlib.Core.Path.{_≡_, refl, sym, _∙_}
+use base.Logic.{emp, id⊢}
+use Rattle.paper.specs.Fixes.{Operation, Fixes, whole, two-tell}
+use Rattle.answer.proofs.Answers.{one-answer}
+use Rattle.strip.proofs.fetch.{ended as fetch-ended, clauses as fetch-clauses}
+use Rattle.strip.proofs.fetch.Key.{name as #fetch}
+use Rattle.strip.proofs.fetch.Reads as fetch
+
+abbrev pub fetch-op : Operation
+fetch-op = record { key = #fetch; T = fetch-ended; clauses = λ M. fetch-clauses; Says = fetch.Learnt; O = _; seen = λ κs. whole }
+
+pub fetch-fixes : Fixes fetch-op
+fetch-fixes = record {
+  takes-all = λ w κs a g. id⊢ (w .𝓤) (emp (w .𝓤));
+  tells = λ w κs a g z e. two-tell (w .𝓤) _ _;
+  one-outcome = λ κs a z z′ ws ws′ p q. (one-answer (p .0) (q .0), λ i. (tt, (tt, ((p .1 ∙ sym (q .1)) i, tt))));
+}

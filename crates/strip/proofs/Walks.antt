@@ -1,0 +1,91 @@
+-- Laws of lines and frames: a line is its runs, and a frame its lines.
+use Prim.Native.Nat.{ℕ, _+_, _-_, _*_, _/_, _%_, _^_, _<_, _≤_}
+use mathlib.Core.Path.{_≡_, sym, ap, _∙_}
+use mathlib.Core.Bool.{true}
+use mathlib.Core.List.{List}
+use mathlib.Core.Logic.{⊎-elim}
+use native.Mathlib.Nat.{suc-mul, mul-le-mul-right}
+use native.Mathlib.Numerals.{add-one}
+use native.Mathlib.Omega.{arith}
+use lib.Arith.{digits-div, digits-mod}
+use lib.ListN.{length, getD}
+use Rattle.paper.specs.Written.{Filled}
+use Rattle.paper.proofs.Fills.{by, join, upto}
+use Rattle.settings.specs.declared.Settings.{Settings}
+use Rattle.settings.specs.Modes.{width}
+use Rattle.settings.specs.Refusals.{imageFits}
+use Rattle.settings.proofs.Widths.{width-cases, width-pos}
+use Rattle.counter.specs.declared.Counter.{Counter}
+use Rattle.counter.specs.Counter.{wrap, carry, clear, bytesOn, lineStart, addressOf}
+use Rattle.counter.proofs.Walks.{bytesOn-on, lineStart-more}
+use Rattle.counter.proofs.Runs.{Aligned, in-run, run-end, runs-aligned}
+use Rattle.strip.specs.Fetch.{imagePlace, byteOn, fetchPlace, fetchedByte}
+use Rattle.strip.proofs.Places.{place-moves}
+
+module _ (s : Settings) (image : List ℕ) (fits : imageFits (length image) ≡ true) (from : Counter) (al : Aligned from) where
+  -- byte j of run n lies j past the run's place
+  run-byte : (n j : ℕ) → j < 16 → getD image (imagePlace s (length image) (bytesOn s (16 * n) from .address) + j) 0 ≡ byteOn s image from (16 * n + j)
+  run-byte n j h =
+      let c : Counter = bytesOn s (16 * n) from in
+      let a = runs-aligned s from al n in
+      ap (λ (p : ℕ). getD image p 0) (sym (place-moves s (length image) fits c a j h))
+      ∙ sym (ap (λ (d : Counter). getD image (imagePlace s (length image) (d .address)) 0) (bytesOn-on s (16 * n) j from ∙ in-run s c a j h))
+
+  abbrev lineBytes : ℕ → ℕ → ℕ
+  lineBytes at k = byteOn s image from (k - at)
+
+  -- one run more
+  pub line-more : (at n : ℕ) {p : ℕ} {x y z : List ℕ} → p ≡ imagePlace s (length image) (bytesOn s (16 * n) from .address)
+      → Filled (lineBytes at) at (at + 16 * n) x y
+      → Filled (λ k. getD image (p + (k - (at + 16 * n))) 0) (at + 16 * n) (at + 16 * n + 16) y z
+      → Filled (lineBytes at) at (at + 16 * (n + 1)) x z
+  line-more at n {p} e f g = upto (omega arith) (join (omega arith) (omega arith) f (by same g))
+    where
+      same : (k : ℕ) → at + 16 * n ≤ k → k < at + 16 * n + 16 → getD image (p + (k - (at + 16 * n))) 0 ≡ byteOn s image from (k - at)
+      same k h l =
+          let d : 16 * n + (k - (at + 16 * n)) ≡ k - at = omega arith in
+          rw e (run-byte n (k - (at + 16 * n)) (omega arith) ∙ ap (byteOn s image from) d)
+
+-- the counter after one run more
+pub run-more : (s : Settings) (from : Counter) → Aligned from → (n : ℕ) {c d : Counter} → c ≡ bytesOn s (16 * n) from → d ≡ carry s c → d ≡ bytesOn s (16 * (n + 1)) from
+run-more s from al n {c} {d} p q =
+    let e : 16 * n + 16 ≡ 16 * (n + 1) = omega arith in
+    q ∙ ap (carry s) p ∙ sym (run-end s (bytesOn s (16 * n) from) (runs-aligned s from al n)) ∙ sym (bytesOn-on s (16 * n) 16 from) ∙ ap (λ (k : ℕ). bytesOn s k from) e
+
+-- W is a number of whole runs, one or two
+pub whole-runs : (s : Settings) → (16 * (width (s .look) / 16) ≡ width (s .look)) × (width (s .look) / 16 ≤ 2)
+whole-runs s = ⊎-elim (λ e. rw e (omega arith, omega arith)) (λ e. rw e (omega arith, omega arith)) (width-cases (s .look))
+
+module _ (s : Settings) (image : List ℕ) where
+  abbrev w : ℕ
+  w = width (s .look)
+
+  -- line n ends within the frame's 192 lines
+  pub line-within : (n : ℕ) → n < 192 → n * w + w ≤ 192 * w
+  line-within n h = rw (← suc-mul n w) (mul-le-mul-right w h)
+
+  -- byte j of line n is fetch n × W + j
+  byte-of-line : (n j : ℕ) → j < w → byteOn s image (lineStart s n) j ≡ fetchedByte s image (n * w + j)
+  unfolding addressOf fetchPlace
+  byte-of-line n j h = rw (digits-div n h, digits-mod n h)
+
+  -- one line more: `wide` and its runs stand for W
+  pub frame-more : (n : ℕ) {wide : ℕ} {c : Counter} {x y z : List ℕ} → wide ≡ w → c ≡ lineStart s n
+      → Filled (fetchedByte s image) 0 (n * w) x y
+      → Filled (λ k. byteOn s image c (k - n * wide)) (n * wide) (n * wide + 16 * (wide / 16)) y z
+      → Filled (fetchedByte s image) 0 ((n + 1) * w) x z
+  frame-more n {wide} {c} {x} {y} {z} e p f g = upto (rw (add-one, suc-mul)) (join (omega arith) (omega arith) f (by same row))
+    where
+      row : Filled (λ k. byteOn s image c (k - n * w)) (n * w) (n * w + w) y z
+      row = upto (rw (whole-runs s .0)) (rw e at g)
+
+      same : (k : ℕ) → n * w ≤ k → k < n * w + w → byteOn s image c (k - n * w) ≡ fetchedByte s image k
+      same k h l =
+          let d : n * w + (k - n * w) ≡ k = omega arith in
+          rw p (byte-of-line n (k - n * w) (omega arith) ∙ ap (fetchedByte s image) d)
+
+  -- and the counter after it
+  pub start-more : (n : ℕ) {wide : ℕ} {c d e : Counter} → wide ≡ w → c ≡ lineStart s n → d ≡ bytesOn s (16 * (wide / 16)) c → e ≡ clear s d → e ≡ lineStart s (n + 1)
+  start-more n {wide} {c} {d} {e} h p q r =
+      let t : 16 * (wide / 16) ≡ w = rw h (whole-runs s .0) in
+      rw lineStart-more (r ∙ ap (clear s) (q ∙ ap (λ (k : ℕ). bytesOn s k c) t ∙ ap (bytesOn s w) p))

@@ -1,0 +1,51 @@
+-- Only the window is felt: what two images have to do with each other's strips.
+use Prim.Native.Nat.{ℕ, _*_, _/_, _%_, _<_}
+use mathlib.Core.Path.{_≡_, refl, sym, ap, _∙_}
+use mathlib.Core.Logic.{_↔_}
+use mathlib.Core.List.{List}
+use native.Mathlib.Nat.{mod-lt, div-lt-iff-lt-mul}
+use native.Mathlib.Omega.{arith}
+use lib.ListN.{length, getD}
+use Rattle.paper.specs.Choose.{choose}
+use Rattle.paper.specs.Written.{written}
+use Rattle.paper.proofs.Fills.{written-by, written-fills}
+use Rattle.settings.specs.declared.Settings.{Settings}
+use Rattle.settings.specs.Modes.{width}
+use Rattle.settings.specs.Refusals.{stripLength}
+use Rattle.settings.proofs.Widths.{width-pos}
+use Rattle.strip.specs.Fetch.{fetchPlace, fetchedByte, fetchTold, stripAfter, Fetched}
+use Rattle.strip.proofs.Fetches.{accepted, strip-done}
+
+-- each fetch of the frame fetches a place
+pub fetch-fetched : (s : Settings) (size k : ℕ) → k < stripLength (s .look) → Fetched s size (fetchPlace s size k)
+unfolding fetchPlace
+fetch-fetched s size k h =
+    record {
+      line = k / width (s .look);
+      byte = k % width (s .look);
+      on-screen = div-lt-iff-lt-mul (width-pos (s .look)) .1 h;
+      in-line = mod-lt k (width-pos (s .look));
+      there = refl;
+    }
+
+-- byte k of the strip after an accepted call
+pub strip-byte : (s : Settings) (image strip : List ℕ) → fetchTold s (length image) (length strip) .number ≡ 0 → (k : ℕ) → k < stripLength (s .look) → getD (stripAfter s image strip) k 0 ≡ fetchedByte s image k
+strip-byte s image strip e k h =
+    rw (strip-done s image strip e) (written-fills (fetchedByte s image) (stripLength (s .look)) strip (accepted s (length image) (length strip) e .1) .is k (omega arith) h)
+
+module _ (s : Settings) (image other strip : List ℕ) (long : length image ≡ length other) where
+  -- images that agree at the fetched places leave the same strip
+  pub same-strip : ((p : ℕ) → Fetched s (length image) p → getD image p 0 ≡ getD other p 0) → stripAfter s image strip ≡ stripAfter s other strip
+  unfolding stripAfter
+  same-strip agree =
+      let e : written (fetchedByte s image) (stripLength (s .look)) strip ≡ written (fetchedByte s other) (stripLength (s .look)) strip =
+      written-by (stripLength (s .look)) strip (λ k h. agree (fetchPlace s (length image) k) (fetch-fetched s (length image) k h) ∙ ap (λ (n : ℕ). getD other (fetchPlace s n k) 0) long) in
+      rw (e, long)
+
+  -- where both calls are done, strip byte k differs exactly where the images differ at the place of fetch k
+  pub same-byte : fetchTold s (length image) (length strip) .number ≡ 0 → (k : ℕ) → k < stripLength (s .look)
+      → (getD (stripAfter s image strip) k 0 ≡ getD (stripAfter s other strip) k 0) ↔ (getD image (fetchPlace s (length image) k) 0 ≡ getD other (fetchPlace s (length image) k) 0)
+  same-byte e k h =
+      let p = strip-byte s image strip e k h in
+      let q = strip-byte s other strip (rw (← long) e) k h ∙ ap (λ (n : ℕ). getD other (fetchPlace s n k) 0) (sym long) in
+      (λ x. sym p ∙ x ∙ q, λ y. p ∙ y ∙ sym q)

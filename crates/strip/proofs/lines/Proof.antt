@@ -1,0 +1,88 @@
+-- `strip::lines` meets its contract.
+use Prim.Native.Nat.{ℕ, _+_, _-_, _*_, _≤_}
+use mathlib.Core.Path.{_≡_, sym, ap}
+use native.Mathlib.Nat.{zero-mul}
+use native.Mathlib.Omega.{arith}
+use borrow.Author.Needs.{needs}
+use denote.Ref.{now}
+use Rattle.paper.specs.Written.{Filled}
+use Rattle.paper.proofs.Fills.{none, upto}
+use Rattle.settings.specs.Modes.{width}
+use Rattle.counter.specs.Counter.{lineStart}
+use Rattle.counter.proofs.Walks.{lineStart-none}
+use Rattle.counter.proofs.Runs.{line-aligned}
+use Rattle.strip.specs.Fetch.{fetchedByte}
+use Rattle.strip.proofs.Walks.{whole-runs, line-within, frame-more, start-more}
+use Rattle.strip.proofs.lines.Statement.{statement}
+use Rattle.strip.proofs.lines.Tie as tie
+
+abbrev Inv-loop : tie.InvT-loop
+Inv-loop settings image strip₀ wide runs counter₀ n₀ strip counter n =
+    (n ≤ 192) × (counter ≡ lineStart settings n) × Filled (fetchedByte settings image) 0 (n * width (settings .look)) strip₀ strip
+
+abbrev μ-loop : tie.MeasureT-loop
+μ-loop settings image strip₀ wide runs counter₀ n₀ strip counter n = 192 - n
+
+-- the line of this turn ends within the frame
+within : (c : tie.In-loop Inv-loop μ-loop) → c .before .loop .n * width (c .before .before .before .before .before .before .args .settings .look) + width (c .before .before .before .before .before .before .args .settings .look) ≤ 192 * width (c .before .before .before .before .before .before .args .settings .look)
+within c = line-within (c .before .before .before .before .before .before .args .settings) (now (c .before .before .before .before .before .before .args .image)) (c .before .loop .n) (c .loop-test .taken)
+
+width-requires : tie.Need-width-requires Inv-loop μ-loop
+width-requires c κs = search needs
+
+first-requires : tie.Need-first-requires Inv-loop μ-loop
+first-requires c κs = search needs
+
+loop-holds : tie.Need-loop-holds Inv-loop μ-loop
+loop-holds c = (search needs, rw lineStart-none (c .first .ensures), upto (sym (zero-mul _)) (none _ _ _))
+
+mul-line : tie.Need-mul-line Inv-loop μ-loop
+mul-line c = rw (c .before .before .before .before .width .ensures) (omega (arith, within (c .before)))
+
+line-requires : tie.Need-line-requires Inv-loop μ-loop
+line-requires c κs = rw (c .before .before .before .before .width .ensures) (
+  c .before .before .before .before .before .before .before .pre .0,
+  rw (c .before .before .loop .inv .1) (line-aligned _ _),
+  whole-runs (c .before .before .before .before .before .before .before .args .settings) .1,
+  omega (arith, whole-runs (c .before .before .before .before .before .before .before .args .settings) .0, within (c .before), c .before .before .loop .inv .2 .long, c .before .before .before .before .before .before .before .pre .1),
+)
+
+line-end-requires : tie.Need-line-end-requires Inv-loop μ-loop
+line-end-requires c κs = search needs
+
+add-n : tie.Need-add-n Inv-loop μ-loop
+add-n c = omega arith
+
+loop-less : tie.Need-loop-less Inv-loop μ-loop
+loop-less c = omega arith
+
+loop-again : tie.Need-loop-again Inv-loop μ-loop
+loop-again c = (
+  omega arith,
+  start-more _ (now (c .before .before .before .before .before .before .before .before .before .before .before .args .image)) _ (c .before .before .before .before .before .before .before .before .width .ensures) (c .before .before .before .before .before .before .loop .inv .1) (c .before .before .before .line .ensures .0) (c .line-end .ensures),
+  frame-more _ (now (c .before .before .before .before .before .before .before .before .before .before .before .args .image)) _ (c .before .before .before .before .before .before .before .before .width .ensures) (c .before .before .before .before .before .before .loop .inv .1) (c .before .before .before .before .before .before .loop .inv .2) (c .before .before .before .line .ensures .1),
+)
+
+same-length : tie.Need-same-length Inv-loop μ-loop
+same-length c = c .before .loop .inv .2 .long
+
+returns : tie.Need-returns Inv-loop μ-loop
+returns c = upto (ap (λ (n : ℕ). n * width (c .before .before .before .before .before .before .args .settings .look)) (omega arith)) (c .before .loop .inv .2)
+
+pub lines-spec : {M : Type 1} → statement M
+lines-spec =
+    tie.close
+    (tie.spec
+    Inv-loop
+    μ-loop
+    width-requires
+    first-requires
+    loop-holds
+    mul-line
+    line-requires
+    line-end-requires
+    add-n
+    loop-less
+    loop-again
+    same-length
+    returns)

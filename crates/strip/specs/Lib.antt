@@ -1,0 +1,2 @@
+-- What fetching answers and leaves.
+pub mod Fetch

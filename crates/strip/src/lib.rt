@@ -1,0 +1,112 @@
+// The strip of fetched bytes.
+use answer::Answer;
+use counter::Counter;
+use settings::Settings;
+ghost use mathlib.Core.Path.{_≡_};
+ghost use mathlib.Core.Bool.{true};
+ghost use Prim.Native.Nat.{_+_, _-_, _*_, _<_, _≤_, _/_};
+ghost use lib.ListN.{length, getD};
+ghost use Rattle.paper.specs.Written.{Filled};
+ghost use Rattle.answer.specs.Told.{toldOf};
+ghost use Rattle.settings.specs.Modes.{width};
+ghost use Rattle.settings.specs.Refusals.{imageFits};
+ghost use Rattle.counter.specs.Counter.{bytesOn};
+ghost use Rattle.counter.proofs.Runs.{Aligned};
+ghost use Rattle.strip.specs.Fetch.{imagePlace, byteOn, fetchedByte, fetchTold, stripAfter};
+
+// The place in an image of an address.
+fn place(settings: Settings, size: usize, address: u16) -> usize
+    requires { ⌜ imageFits size ≡ true ⌝ }
+    ensures { λ r. ⌜ r ≡ imagePlace settings size address ⌝ }
+{
+    (address as usize) & (size - 1)
+}
+
+// Copies an aligned run of 16 bytes of the image, from the place `from` on, to the strip, from `at` on.
+fn copy_run(image: &[u8], from: usize, strip: &mut [u8], at: usize)
+    requires { ⌜ (from + 16 ≤ length (now image)) × (at + 16 ≤ length (now strip)) ⌝ }
+    ensures { λ _. ⌜ Filled (λ k. getD (now (image .entry)) (from + (k - at)) 0) at (at + 16) (now (strip .entry)) (now (strip .exit)) ⌝ }
+{
+    let mut j = 0;
+    while j < 16 {
+        strip[at + j] = image[from + j];
+        j += 1;
+    }
+}
+
+// Fetches a line of `runs` runs that starts with the counter `from`, to the strip from `at` on, and hands back the counter after it.
+fn line(
+    settings: Settings,
+    from: Counter,
+    runs: usize,
+    image: &[u8],
+    strip: &mut [u8],
+    at: usize,
+) -> Counter
+    requires { ⌜ (imageFits (length (now image)) ≡ true) × (Aligned from) × (runs ≤ 2) × (at + 16 * runs ≤ length (now strip)) ⌝ }
+    ensures { λ r. ⌜ r ≡ bytesOn settings (16 * runs) from ⌝ }
+    ensures { λ r. ⌜ Filled (λ k. byteOn settings (now (image .entry)) from (k - at)) at (at + 16 * runs) (now (strip .entry)) (now (strip .exit)) ⌝ }
+{
+    let size = image.len();
+    let mut counter = from;
+    let mut n = 0;
+    while n < runs {
+        let run = place(settings, size, counter.address);
+        copy_run(image, run, strip, at + 16 * n);
+        counter = counter.pass(settings);
+        n += 1;
+    }
+    counter
+}
+
+// Fetches the frame's 192 lines.
+fn lines(settings: Settings, image: &[u8], strip: &mut [u8])
+    requires { ⌜ (imageFits (length (now image)) ≡ true) × (192 * width (settings .look) ≤ length (now strip)) ⌝ }
+    ensures { λ _. ⌜ Filled (fetchedByte settings (now (image .entry))) 0 (192 * width (settings .look)) (now (strip .entry)) (now (strip .exit)) ⌝ }
+{
+    let wide = settings::width(settings.look);
+    let runs = wide / 16;
+    let mut counter = counter::first(settings);
+    let mut n = 0;
+    while n < 192 {
+        let end = line(settings, counter, runs, image, strip, n * wide);
+        counter = end.line_end(settings);
+        n += 1;
+    }
+}
+
+// What fetching answers, from the settings and the lengths of what is lent.
+fn fetch_answer(settings: Settings, image: usize, strip: usize) -> Answer
+    ensures { λ r. ⌜ toldOf r ≡ fetchTold settings image strip ⌝ }
+{
+    let look = settings.look;
+    if 63 < look.pins {
+        return Answer::PinsAbove;
+    }
+    if !settings::graphics(look) & settings::external(look) {
+        return Answer::External;
+    }
+    if settings::fast(settings) {
+        return Answer::FastRate;
+    }
+    if !settings::image_fits(image) {
+        return Answer::ImageLength;
+    }
+    let total = 192 * settings::width(look);
+    if strip < total {
+        return Answer::ShortStrip;
+    }
+    Answer::Done(total)
+}
+
+// Fetches the strip of a frame: 192 lines of W bytes, in fetched order, repeats included.
+pub fn fetch(settings: Settings, image: &[u8], strip: &mut [u8]) -> Answer
+    ensures answer { λ r. ⌜ toldOf r ≡ fetchTold settings (length (now (image .entry))) (length (now (strip .entry))) ⌝ }
+    ensures bytes { λ r. ⌜ now (strip .exit) ≡ stripAfter settings (now (image .entry)) (now (strip .entry)) ⌝ }
+{
+    let answer = fetch_answer(settings, image.len(), strip.len());
+    if let Answer::Done(_) = answer {
+        lines(settings, image, strip);
+    }
+    answer
+}

@@ -1,0 +1,4 @@
+-- Texts: which may stand, how they are put together, and how they are read.
+pub mod Code
+pub mod Combine
+pub mod Hex
