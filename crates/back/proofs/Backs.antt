@@ -2,11 +2,11 @@
 use Prim.Native.Nat.{ℕ, _*_, _≤_, _<_}
 use mathlib.Core.Path.{_≡_, refl, ap, _∙_}
 use mathlib.Core.Bool.{Bool, true, false, not, _||_}
-use mathlib.Core.List.{List}
+use mathlib.Core.List.{List, _++_}
 use native.Mathlib.Omega.{arith}
 use lib.Dec.{eqb, ltb}
 use lib.ListN.{length, getD}
-use borrow.Author.Tests.{ltb-false}
+use borrow.Author.Tests.{le-ltb, ltb-false, eq-eqb}
 use Rattle.paper.specs.Choose.{choose}
 use Rattle.paper.specs.Told.{Told, told, done}
 use Rattle.paper.specs.Order.{firstOf}
@@ -21,7 +21,7 @@ use Rattle.frame.proofs.Draws.{accepts-graphics, frame-done}
 use Rattle.back.specs.Read.{readByte}
 use Rattle.back.specs.Stray.{firstStray}
 use Rattle.back.specs.Back.{lengthOrder, strayOrder, backTold, stripAfter, Fits}
-use Rattle.back.proofs.RoundTrip.{written-draws, drawn-clean}
+use Rattle.back.proofs.RoundTrip.{written-draws, drawn-clean, none-stray}
 
 yes-not : (a : Bool) → not a ≡ false → a ≡ true
 yes-not true e = refl
@@ -83,3 +83,32 @@ module _ (look : Look) (frame strip : List ℕ) where
       → stripAfter look frame strip ≡ choose (ltb (firstStray look frame) 49152) strip (written (readByte look frame) (192 * width look) strip)
   unfolding stripAfter strayOrder
   strip-passed h = rw (told-passed h) (by-stray (ltb (firstStray look frame) 49152) (firstStray look frame) (192 * width look) (written (readByte look frame) (192 * width look) strip) strip)
+
+  -- over the whole order: where reading back is done, all fits and no pixel is stray, and conversely
+  pub back-accepted : backTold look (length strip) frame .number ≡ 0 → Fits look (length strip) (length frame) × (firstStray look frame ≡ 49152)
+  unfolding backTold lengthOrder strayOrder
+  back-accepted e =
+      let n = done-when (done (192 * width look)) refl (lengthOrder look (length strip) (length frame) ++ strayOrder look frame) tt .0 e in (
+        record {
+          pins-low = ltb-false _ _ (n .0);
+          in-graphics = yes-not (graphics look) (n .1 .0);
+          strip-long = ltb-false _ _ (n .1 .1 .0);
+          frame-long = ltb-false _ _ (n .1 .1 .1 .0);
+        },
+        none-stray look frame (ltb-false _ _ (n .1 .1 .1 .1 .0)),
+      )
+
+  pub back-accepts : Fits look (length strip) (length frame) → firstStray look frame ≡ 49152 → backTold look (length strip) frame .number ≡ 0
+  unfolding backTold lengthOrder strayOrder
+  back-accepts f e =
+      done-when (done (192 * width look)) refl (lengthOrder look (length strip) (length frame) ++ strayOrder look frame) tt .1
+      (le-ltb _ _ (f .pins-low), (simp (f .in-graphics), (le-ltb _ _ (f .strip-long), (le-ltb _ _ (f .frame-long), (le-ltb (firstStray look frame) 49152 (omega arith), tt)))))
+
+  -- and the strip holds what is read, or is as it was
+  pub strip-done : backTold look (length strip) frame .number ≡ 0 → stripAfter look frame strip ≡ written (readByte look frame) (192 * width look) strip
+  unfolding stripAfter
+  strip-done e = simp (eq-eqb _ _ e)
+
+  pub strip-kept : eqb (backTold look (length strip) frame .number) 0 ≡ false → stripAfter look frame strip ≡ strip
+  unfolding stripAfter
+  strip-kept e = simp e

@@ -3,4 +3,5 @@ pub mod Values
 pub mod Shapes
 pub mod RoundTrip
 pub mod Backs
+pub mod Trips
 pub mod Unique

@@ -48,6 +48,10 @@ both true true h = (refl, refl)
 both true false h = let z : _≡_ {A = ℕ} 0 1 = cc in absurd (omega arith)
 both false y h = let z : _≡_ {A = ℕ} 0 1 = cc in absurd (omega arith)
 
+pub none-stray : (l : Look) (f : List ℕ) → 49152 ≤ firstStray l f → firstStray l f ≡ 49152
+unfolding firstStray
+none-stray l f h = omega (arith, first-le (stray l f) 49152)
+
 zeros : (n j : ℕ) → _≡_ {A = ℕ} (getD (replicate n 0) j 0) 0
 zeros zero j = refl
 zeros (suc n) zero = refl
@@ -138,13 +142,9 @@ module _ (l : Look) (g : graphics l ≡ true) where
       (λ h. rw (fills f .after j h ∙ zeros (192 * width l) j) (omega arith))
       (lt-or-ge j (192 * width l))
 
-  none-stray : (f : List ℕ) → 49152 ≤ firstStray l f → firstStray l f ≡ 49152
-  unfolding firstStray
-  none-stray f h = omega (arith, first-le (stray l f) 49152)
-
   -- a frame has a stray pixel exactly where no strip draws it
   pub no-strip : (font f : List ℕ) → (firstStray l f < 49152) ↔ ((S : List ℕ) → Bytes S → Draws l font S f → ⊥)
   no-strip font f = (
     λ h S _ d. omega (arith, drawn-clean font S f d),
-    λ no. ⊎-elim (λ h. h) (λ h. absurd (no (strip-of f) (strip-bytes f) (clean-drawn font f (strip-of f) (none-stray f h) (strip-reads f)))) (lt-or-ge (firstStray l f) 49152),
+    λ no. ⊎-elim (λ h. h) (λ h. absurd (no (strip-of f) (strip-bytes f) (clean-drawn font f (strip-of f) (none-stray l f h) (strip-reads f)))) (lt-or-ge (firstStray l f) 49152),
   )

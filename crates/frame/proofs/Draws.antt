@@ -34,6 +34,10 @@ accepted look font strip frame e =
       frame-long = ltb-false _ _ (n .1 .1 .1 .1 .0);
     }
 
+pub accepted-pins : (look : Look) (font strip frame : ℕ) → drawTold look font strip frame .number ≡ 0 → look .pins ≤ 63
+unfolding drawTold drawOrder
+accepted-pins look font strip frame e = ltb-false _ _ (done-when (done (border look)) refl (drawOrder look font strip frame) tt .0 e .0)
+
 module _ (look : Look) (font strip frame : ℕ) where
   -- where no condition of the order holds, drawing is done
   pub accepts : ltb 63 (look .pins) ≡ false → (not (graphics look) && external look) ≡ false → (not (graphics look) && not (eqb font (fontSize look))) ≡ false
