@@ -9,6 +9,7 @@ use Rattle.counter.proofs.Unique as counter
 use Rattle.strip.proofs.Unique as strip
 use Rattle.frame.proofs.Unique as frame
 use Rattle.screen.proofs.Unique as screen
+use Rattle.back.proofs.Unique as back
 use Rattle.sheet.proofs.Unique as sheet
 use Rattle.wording.proofs.Unique as wording
 
@@ -38,6 +39,7 @@ operations =
     ∷ strip.fetch-op
     ∷ frame.draw-op
     ∷ screen.show-op
+    ∷ back.read-back-op
     ∷ sheet.read-op
     ∷ sheet.deed-op
     ∷ sheet.annotation-op
@@ -72,6 +74,7 @@ all-fix =
     & strip.fetch-fixes
     & frame.draw-fixes
     & screen.show-fixes
+    & back.read-back-fixes
     & sheet.read-fixes
     & sheet.deed-fixes
     & sheet.annotation-fixes
@@ -105,6 +108,7 @@ pub named : map (λ o. o .key) operations
     ∷ "strip::fetch"
     ∷ "frame::draw"
     ∷ "screen::show"
+    ∷ "back::read_back"
     ∷ "sheet::read"
     ∷ "sheet::deed"
     ∷ "sheet::annotation"

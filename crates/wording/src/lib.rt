@@ -15,8 +15,6 @@ ghost use Rattle.sheet.specs.Given.{fieldsIn};
 ghost use Rattle.wording.specs.Words.{decimal, room, textOf, held, Holds};
 ghost use Rattle.wording.specs.Report.{settingsIn, settingOrder, reportTold, settingLines, annotated, reportOf};
 
-mod digits;
-
 // The report's own keys; `deed=` and `pins=` are the sheet's.
 const STATUS_KEY: [u8; 7] = *b"status=";
 
@@ -36,6 +34,50 @@ pub struct Text {
     pub len: usize,
 }
 
+// The digits of a number: those from `from` on.
+struct Digits {
+    bytes: [u8; 20],
+    from: usize,
+}
+
+// A number in decimal.
+fn decimal(n: usize) -> Digits
+    ensures { λ r. ⌜ (drop (r .from) (r .bytes) ≡ decimal n) × (r .from ≤ 20) × (length (r .bytes) ≡ 20) ⌝ }
+{
+    let mut bytes = [0u8; 20];
+    let mut from: usize = 20;
+    let mut rest = n;
+    while 10 <= rest {
+        from -= 1;
+        bytes[from] = 48 + (rest % 10) as u8;
+        rest = rest / 10;
+    }
+    from -= 1;
+    bytes[from] = 48 + rest as u8;
+    Digits { bytes, from }
+}
+
+// The byte of a hex digit.
+fn hex_digit(d: u16) -> u8
+    requires { ⌜ d < 16 ⌝ }
+    ensures { λ r. ⌜ r ≡ hexDigit d ⌝ }
+{
+    if d < 10 { 48 + d as u8 } else { 55 + d as u8 }
+}
+
+// A number in four hex digits.
+fn hex(n: u16) -> [u8; 4]
+    ensures { λ r. ⌜ r ≡ hex 4 n ⌝ }
+{
+    [
+        hex_digit(n / 4096),
+        hex_digit(n % 4096 / 256),
+        hex_digit(n % 4096 % 256 / 16),
+        hex_digit(n % 4096 % 256 % 16),
+    ]
+}
+
+// A text that holds nothing yet.
 fn blank() -> Text
     ensures { λ r. ⌜ r ≡ textOf [] ⌝ }
 {
@@ -79,7 +121,7 @@ fn number_line(text: Text, word: &[u8], n: usize) -> Text
     ensures { λ r. ⌜ r ≡ textOf (held text ++ (now (word .entry) ++ (decimal n ++ nl))) ⌝ }
     ensures { λ r. ⌜ Holds r × (r .len ≤ text .len + (length (now (word .entry)) + 21)) ⌝ }
 {
-    let digits = digits::decimal(n);
+    let digits = decimal(n);
     let bytes = digits.bytes;
     let from = digits.from;
     line(text, word, &bytes[from..])
@@ -92,13 +134,13 @@ fn setting_lines(text: Text, settings: Settings) -> Text
     ensures { λ r. ⌜ Holds r × (r .len ≤ text .len + 50) ⌝ }
 {
     let look = settings.look;
-    let pins = digits::hex(look.pins as u16);
-    let control = digits::hex(settings.word);
+    let pins = hex(look.pins as u16);
+    let control = hex(settings.word);
     let name = settings::mode_name(look);
     let letters = name.bytes;
     let len = name.len;
     let first = counter::first(settings);
-    let start = digits::hex(first.address);
+    let start = hex(first.address);
     let one = line(text, &sheet::PINS_KEY, &pins[2..]);
     let two = line(one, &CONTROL_KEY, &control);
     let three = line(two, &MODE_KEY, &letters[..len]);

@@ -1,8 +1,8 @@
--- `wording::digits::hex_digit` meets its contract.
+-- `wording::hex_digit` meets its contract.
 use borrow.Author.Tests.{lt-ltb, le-ltb}
 use borrow.Author.Needs.{needs}
-use Rattle.wording.proofs.digits.hex_digit.Statement.{statement}
-use Rattle.wording.proofs.digits.hex_digit.Tie as tie
+use Rattle.wording.proofs.hex_digit.Statement.{statement}
+use Rattle.wording.proofs.hex_digit.Tie as tie
 
 cast-result : tie.Need-cast-result
 cast-result c = search needs

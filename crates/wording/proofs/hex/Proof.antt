@@ -1,8 +1,8 @@
--- `wording::digits::hex` meets its contract.
+-- `wording::hex` meets its contract.
 use native.Mathlib.Nat.{div-one}
 use borrow.Author.Needs.{needs}
-use Rattle.wording.proofs.digits.hex.Statement.{statement}
-use Rattle.wording.proofs.digits.hex.Tie as tie
+use Rattle.wording.proofs.hex.Statement.{statement}
+use Rattle.wording.proofs.hex.Tie as tie
 
 hex-digit-requires : tie.Need-hex-digit-requires
 hex-digit-requires c κs = search needs

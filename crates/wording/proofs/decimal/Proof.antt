@@ -1,9 +1,9 @@
--- `wording::digits::decimal` meets its contract.
+-- `wording::decimal` meets its contract.
 use lib.ListN.{length-set}
 use native.Mathlib.Omega.{arith}
 use Rattle.wording.proofs.Decimals.{Found, none-found, one-more, last-one}
-use Rattle.wording.proofs.digits.decimal.Statement.{statement}
-use Rattle.wording.proofs.digits.decimal.Tie as tie
+use Rattle.wording.proofs.decimal.Statement.{statement}
+use Rattle.wording.proofs.decimal.Tie as tie
 
 abbrev Inv-loop : tie.InvT-loop
 Inv-loop n bytes₀ from₀ rest₀ bytes from rest = Found n bytes from rest
