@@ -2,6 +2,7 @@
 use mathlib.Core.Path.{_≡_, refl, sym, _∙_}
 use base.Logic.{emp, id⊢}
 use Rattle.paper.specs.Fixes.{Operation, Fixes, whole, one-tells}
+use Rattle.answer.proofs.Answers.{one-answer}
 use Rattle.answer.proofs.number.{ended as number-ended, clauses as number-clauses}
 use Rattle.answer.proofs.number.Key.{name as #number}
 use Rattle.answer.proofs.number.Reads as number
@@ -11,6 +12,9 @@ use Rattle.answer.proofs.place.Reads as place
 use Rattle.answer.proofs.value.{ended as value-ended, clauses as value-clauses}
 use Rattle.answer.proofs.value.Key.{name as #value}
 use Rattle.answer.proofs.value.Reads as value
+use Rattle.answer.proofs.check.{ended as check-ended, clauses as check-clauses}
+use Rattle.answer.proofs.check.Key.{name as #check}
+use Rattle.answer.proofs.check.Reads as check
 
 abbrev pub number-op : Operation
 number-op = record { key = #number; T = number-ended; clauses = λ M. number-clauses; Says = number.Learnt; O = _; seen = λ κs. whole }
@@ -40,4 +44,14 @@ value-fixes = record {
   takes-all = λ w κs a g. id⊢ (w .𝓤) (emp (w .𝓤));
   tells = λ w κs a g z e. one-tells (w .𝓤) _;
   one-outcome = λ κs a z z′ ws ws′ p q. (p ∙ sym q, refl);
+}
+
+abbrev pub check-op : Operation
+check-op = record { key = #check; T = check-ended; clauses = λ M. check-clauses; Says = check.Learnt; O = _; seen = λ κs. whole }
+
+pub check-fixes : Fixes check-op
+check-fixes = record {
+  takes-all = λ w κs a g. id⊢ (w .𝓤) (emp (w .𝓤));
+  tells = λ w κs a g z e. one-tells (w .𝓤) _;
+  one-outcome = λ κs a z z′ ws ws′ p q. (one-answer p q, refl);
 }

@@ -1,5 +1,8 @@
 // What an operation answers, and what a clerk is told of it.
 ghost use mathlib.Core.Path.{_≡_};
+ghost use mathlib.Core.Bool.{_&&_};
+ghost use lib.Dec.{eqb};
+ghost use Rattle.paper.specs.Choose.{choose};
 ghost use Rattle.answer.specs.Told.{toldOf};
 
 // Done with its value, or refused: a case for each number of document 01, in its order, holding what the paper gives it.
@@ -79,4 +82,12 @@ pub fn value(a: Answer) -> usize
         Answer::Elsewhere(_, word) => word as usize,
         Answer::BrokenSheet(_) => 0,
     }
+}
+
+// The answer after one more check: the refusal where none was given before and its condition holds.
+pub fn check(answer: Answer, when: bool, refusal: Answer) -> Answer
+    ensures { λ r. ⌜ toldOf r ≡ choose (eqb (toldOf answer .number) 0 && when) (toldOf refusal) (toldOf answer) ⌝ }
+{
+    let done = number(answer) == 0;
+    if done & when { refusal } else { answer }
 }

@@ -184,20 +184,12 @@ fn first_stray(look: Look, strip: &[u8], frame: &[u8]) -> usize
 fn length_answer(look: Look, strip: usize, frame: usize) -> Answer
     ensures { λ r. ⌜ toldOf r ≡ firstOf (lengthOrder look strip frame) (done (192 * width look)) ⌝ }
 {
-    if 63 < look.pins {
-        return Answer::PinsAbove;
-    }
-    if !settings::graphics(look) {
-        return Answer::TextBack;
-    }
-    let length = 192 * settings::width(look);
-    if strip < length {
-        return Answer::ShortStrip;
-    }
-    if frame < 49152 {
-        return Answer::ShortFrame;
-    }
-    Answer::Done(length)
+    let total = 192 * settings::width(look);
+    let mut answer = Answer::Done(total);
+    answer = answer::check(answer, 63 < look.pins, Answer::PinsAbove);
+    answer = answer::check(answer, !settings::graphics(look), Answer::TextBack);
+    answer = answer::check(answer, strip < total, Answer::ShortStrip);
+    answer::check(answer, frame < 49152, Answer::ShortFrame)
 }
 
 // The work, where no length is refused: the bytes are gathered aside, and stored once it is known that no pixel is stray.

@@ -18,6 +18,7 @@ operations =
     answer.number-op
     ∷ answer.place-op
     ∷ answer.value-op
+    ∷ answer.check-op
     ∷ settings.video-mode-op
     ∷ settings.offset-op
     ∷ settings.fast-op
@@ -53,6 +54,7 @@ all-fix =
     answer.number-fixes
     & answer.place-fixes
     & answer.value-fixes
+    & answer.check-fixes
     & settings.video-mode-fixes
     & settings.offset-fixes
     & settings.fast-fixes
@@ -87,6 +89,7 @@ pub named : map (λ o. o .key) operations
     ≡ "answer::number"
     ∷ "answer::place"
     ∷ "answer::value"
+    ∷ "answer::check"
     ∷ "settings::video_mode"
     ∷ "settings::offset"
     ∷ "settings::fast"

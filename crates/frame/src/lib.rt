@@ -294,23 +294,18 @@ fn text(look: Look, font: &[u8], strip: &[u8], frame: &mut [u8])
 fn draw_answer(look: Look, font: usize, strip: usize, frame: usize) -> Answer
     ensures { λ r. ⌜ toldOf r ≡ drawTold look font strip frame ⌝ }
 {
-    if 63 < look.pins {
-        return Answer::PinsAbove;
-    }
     let text = !settings::graphics(look);
-    if text & settings::external(look) {
-        return Answer::External;
-    }
-    if text & !(font == settings::font_size(look)) {
-        return Answer::FontLength;
-    }
-    if strip < 192 * settings::width(look) {
-        return Answer::ShortStrip;
-    }
-    if frame < 49152 {
-        return Answer::ShortFrame;
-    }
-    Answer::Done(wide(settings::border(look)))
+    let total = 192 * settings::width(look);
+    let mut answer = Answer::Done(wide(settings::border(look)));
+    answer = answer::check(answer, 63 < look.pins, Answer::PinsAbove);
+    answer = answer::check(answer, text & settings::external(look), Answer::External);
+    answer = answer::check(
+        answer,
+        text & !(font == settings::font_size(look)),
+        Answer::FontLength,
+    );
+    answer = answer::check(answer, strip < total, Answer::ShortStrip);
+    answer::check(answer, frame < 49152, Answer::ShortFrame)
 }
 
 // The picture, where nothing is refused.

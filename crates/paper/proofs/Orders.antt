@@ -2,10 +2,11 @@
 use Prim.Native.Nat.{ℕ, _<_}
 use mathlib.Core.Path.{_≡_, refl, sym, ap, _∙_}
 use mathlib.Core.Bool.{Bool, true, false, _&&_}
-use mathlib.Core.List.{List, [], _∷_}
+use mathlib.Core.List.{List, [], _∷_, _++_}
 use mathlib.Core.Logic.{_⊎_, inl, inr, ⊎-elim, _↔_}
 use native.Mathlib.Omega.{arith}
-use lib.Dec.{T, ltb, ltb→lt}
+use borrow.Author.Tests.{ne-eqb}
+use lib.Dec.{T, eqb, ltb, ltb→lt}
 use Rattle.paper.specs.Choose.{choose}
 use Rattle.paper.specs.Told.{Told}
 use Rattle.paper.specs.Order.{Check, check, firstOf, NoneHolds, HoldsFirst, areRefusals}
@@ -50,3 +51,20 @@ module _ (other : Told) (done : other .number ≡ 0) where
   done-says (c ∷ cs) r e =
       let s = both (ltb 0 (c .says .number)) (areRefusals cs) r in
       done-by-test (c .when) (c .says) cs (ltb→lt 0 (c .says .number) (s .0)) (done-says cs (s .1)) e
+
+  more-by-test : (b : Bool) (t : Told) (x y : Told) (w : Bool) (u : Told) → 0 < t .number → choose (eqb (x .number) 0 && w) u x ≡ y
+      → choose (eqb (choose b t x .number) 0 && w) u (choose b t x) ≡ choose b t y
+  more-by-test true t x y w u h e = rw (ne-eqb (t .number) 0 (λ z. omega arith))
+  more-by-test false t x y w u h e = e
+
+  -- one check more at the end of an order: it says what it says where no earlier one did
+  one-more : (cs : List Check) (c : Check) → T (areRefusals cs)
+      → choose (eqb (firstOf cs other .number) 0 && c .when) (c .says) (firstOf cs other) ≡ firstOf (cs ++ (c ∷ [])) other
+  one-more [] c r = rw done
+  one-more (b ∷ cs) c r =
+      let s = both (ltb 0 (b .says .number)) (areRefusals cs) r in
+      more-by-test (b .when) (b .says) (firstOf cs other) (firstOf (cs ++ (c ∷ [])) other) (c .when) (c .says) (ltb→lt 0 (b .says .number) (s .0)) (one-more cs c (s .1))
+
+  -- the same of what was told by the checks before
+  pub checked : {s t : Told} (cs : List Check) (c : Check) → T (areRefusals cs) → s ≡ firstOf cs other → t ≡ choose (eqb (s .number) 0 && c .when) (c .says) s → t ≡ firstOf (cs ++ (c ∷ [])) other
+  checked cs c r e p = rw e at p ∙ one-more cs c r

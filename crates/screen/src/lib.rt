@@ -11,29 +11,20 @@ fn show_answer(settings: Settings, image: usize, font: usize, strip: usize, fram
     ensures { λ r. ⌜ toldOf r ≡ showTold settings image font strip frame ⌝ }
 {
     let look = settings.look;
-    if 63 < look.pins {
-        return Answer::PinsAbove;
-    }
     let text = !settings::graphics(look);
-    if text & settings::external(look) {
-        return Answer::External;
-    }
-    if settings::fast(settings) {
-        return Answer::FastRate;
-    }
-    if !settings::image_fits(image) {
-        return Answer::ImageLength;
-    }
-    if text & !(font == settings::font_size(look)) {
-        return Answer::FontLength;
-    }
-    if strip < 192 * settings::width(look) {
-        return Answer::ShortStrip;
-    }
-    if frame < 49152 {
-        return Answer::ShortFrame;
-    }
-    Answer::Done(settings::border(look) as usize)
+    let total = 192 * settings::width(look);
+    let mut answer = Answer::Done(settings::border(look) as usize);
+    answer = answer::check(answer, 63 < look.pins, Answer::PinsAbove);
+    answer = answer::check(answer, text & settings::external(look), Answer::External);
+    answer = answer::check(answer, settings::fast(settings), Answer::FastRate);
+    answer = answer::check(answer, !settings::image_fits(image), Answer::ImageLength);
+    answer = answer::check(
+        answer,
+        text & !(font == settings::font_size(look)),
+        Answer::FontLength,
+    );
+    answer = answer::check(answer, strip < total, Answer::ShortStrip);
+    answer::check(answer, frame < 49152, Answer::ShortFrame)
 }
 
 // Fetches the strip and draws it: done with the border, or refused with both buffers as they were.

@@ -80,23 +80,14 @@ fn fetch_answer(settings: Settings, image: usize, strip: usize) -> Answer
     ensures { λ r. ⌜ toldOf r ≡ fetchTold settings image strip ⌝ }
 {
     let look = settings.look;
-    if 63 < look.pins {
-        return Answer::PinsAbove;
-    }
-    if !settings::graphics(look) & settings::external(look) {
-        return Answer::External;
-    }
-    if settings::fast(settings) {
-        return Answer::FastRate;
-    }
-    if !settings::image_fits(image) {
-        return Answer::ImageLength;
-    }
+    let text = !settings::graphics(look);
     let total = 192 * settings::width(look);
-    if strip < total {
-        return Answer::ShortStrip;
-    }
-    Answer::Done(total)
+    let mut answer = Answer::Done(total);
+    answer = answer::check(answer, 63 < look.pins, Answer::PinsAbove);
+    answer = answer::check(answer, text & settings::external(look), Answer::External);
+    answer = answer::check(answer, settings::fast(settings), Answer::FastRate);
+    answer = answer::check(answer, !settings::image_fits(image), Answer::ImageLength);
+    answer::check(answer, strip < total, Answer::ShortStrip)
 }
 
 // Fetches the strip of a frame: 192 lines of W bytes, in fetched order, repeats included.

@@ -168,16 +168,11 @@ fn settings_answer(settings: Settings) -> Answer
     ensures { λ r. ⌜ toldOf r ≡ firstOf (settingOrder settings) (done 0) ⌝ }
 {
     let look = settings.look;
-    if 63 < look.pins {
-        return Answer::PinsAbove;
-    }
-    if !settings::graphics(look) & settings::external(look) {
-        return Answer::External;
-    }
-    if settings::fast(settings) {
-        return Answer::FastRate;
-    }
-    Answer::Done(0)
+    let text = !settings::graphics(look);
+    let mut answer = Answer::Done(0);
+    answer = answer::check(answer, 63 < look.pins, Answer::PinsAbove);
+    answer = answer::check(answer, text & settings::external(look), Answer::External);
+    answer::check(answer, settings::fast(settings), Answer::FastRate)
 }
 
 // What the report tells of a sheet: 11, 10, 1, 2, 4. Its settings are those of a sheet whose writes are played.

@@ -1,50 +1,59 @@
 -- `back::length_answer` meets its contract.
+use Prim.Native.Nat.{ℕ, _*_}
+use mathlib.Core.Path.{_≡_, refl, ap, _∙_}
+use mathlib.Core.List.{[], _∷_}
 use native.Mathlib.Omega.{arith}
-use borrow.Author.Tests.{lt-ltb, le-ltb}
-use borrow.Author.Needs.{needs}
+use Rattle.paper.specs.Told.{done}
+use Rattle.paper.proofs.Orders.{checked}
 use Rattle.settings.proofs.Widths.{width-le}
+use Rattle.settings.specs.Refusals.{stripLength, pinsAbove, textBack, shortStrip, shortFrame}
 use Rattle.back.specs.Back.{lengthOrder}
+use borrow.Author.Needs.{needs}
 use Rattle.back.proofs.length_answer.Statement.{statement}
 use Rattle.back.proofs.length_answer.Tie as tie
-
-returns : tie.Need-returns
-unfolding lengthOrder
-returns c = simp (lt-ltb _ _ (c .if1 .taken))
-
-graphics-requires : tie.Need-graphics-requires
-graphics-requires c κs = search needs
-
-returns-2 : tie.Need-returns-2
-unfolding lengthOrder
-returns-2 c = simp (le-ltb _ _ (c .before .before .if1 .left), rw (c .before .graphics .ensures) at (c .if2 .taken))
 
 width-requires : tie.Need-width-requires
 width-requires c κs = search needs
 
-mul-length : tie.Need-mul-length
-mul-length c = omega (arith, c .width .ensures, width-le (c .before .before .before .before .before .args .look))
+mul-total : tie.Need-mul-total
+mul-total c = omega (arith, c .width .ensures, width-le (c .before .args .look))
 
-returns-3 : tie.Need-returns-3
-unfolding lengthOrder
-returns-3 c = simp (le-ltb _ _ (c .before .before .before .before .if1 .left), rw (c .before .before .before .graphics .ensures) at (c .before .before .if2 .left), rw (c .before .width .ensures) at (lt-ltb _ _ (c .if3 .taken)))
+check-requires : tie.Need-check-requires
+check-requires c κs = search needs
 
-returns-4 : tie.Need-returns-4
-unfolding lengthOrder
-returns-4 c = simp (le-ltb _ _ (c .before .before .before .before .before .if1 .left), rw (c .before .before .before .before .graphics .ensures) at (c .before .before .before .if2 .left), rw (c .before .before .width .ensures) at (le-ltb _ _ (c .before .if3 .left)), lt-ltb _ _ (c .if4 .taken))
+graphics-requires : tie.Need-graphics-requires
+graphics-requires c κs = search needs
 
-returns-5 : tie.Need-returns-5
+check-requires-2 : tie.Need-check-requires-2
+check-requires-2 c κs = search needs
+
+check-requires-3 : tie.Need-check-requires-3
+check-requires-3 c κs = search needs
+
+check-requires-4 : tie.Need-check-requires-4
+check-requires-4 c κs = search needs
+
+returns : tie.Need-returns
 unfolding lengthOrder
-returns-5 c = simp (le-ltb _ _ (c .before .before .before .before .before .if1 .left), rw (c .before .before .before .before .graphics .ensures) at (c .before .before .before .if2 .left), rw (c .before .before .width .ensures) at (le-ltb _ _ (c .before .if3 .left)), le-ltb _ _ (c .if4 .left), c .before .before .width .ensures)
+returns c =
+    let a = c .before .before .before .before .before .before .before .args in
+    let l = a .look in
+    let d = done (stripLength l) in
+    let e0 : done (192 * c .before .before .before .before .before .before .width .result) ≡ d = ap (λ (w : ℕ). done (192 * w)) (c .before .before .before .before .before .before .width .ensures) in
+    let e1 = checked d refl ([]) (pinsAbove l) tt e0 (c .before .before .before .before .check .ensures) in
+    let e2 = checked d refl (pinsAbove l ∷ []) (textBack l) tt e1 (rw (c .before .before .before .graphics .ensures) at (c .before .before .check2 .ensures)) in
+    let e3 = checked d refl (pinsAbove l ∷ textBack l ∷ []) (shortStrip l (a .strip)) tt e2 (rw (c .before .before .before .before .before .before .width .ensures) at (c .before .check3 .ensures)) in
+    checked d refl (pinsAbove l ∷ textBack l ∷ shortStrip l (a .strip) ∷ []) (shortFrame (a .frame)) tt e3 (c .check4 .ensures)
 
 pub length-answer-spec : {M : Type 1} → statement M
 length-answer-spec =
     tie.close
     (tie.spec
-    returns
-    graphics-requires
-    returns-2
     width-requires
-    mul-length
-    returns-3
-    returns-4
-    returns-5)
+    mul-total
+    check-requires
+    graphics-requires
+    check-requires-2
+    check-requires-3
+    check-requires-4
+    returns)

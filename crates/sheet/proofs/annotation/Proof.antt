@@ -13,11 +13,6 @@ use Rattle.sheet.specs.declared.Step.{Step}
 use Rattle.sheet.proofs.Parts.{WholeGiven, whole-given, count-given, some-whole, LineIn, line-in, line-from, none-from, tail-at, part-move}
 use Rattle.sheet.proofs.annotation.Statement.{statement}
 use Rattle.sheet.proofs.annotation.Tie as tie
-use Rattle.sheet.proofs.annotation.Reads as reads
-use Rattle.sheet.proofs.annotation.Lts as lts
-use Rattle.sheet.proofs.annotation_line.Reads as annotation-line-reads
-use Rattle.sheet.proofs.annotation_start.Reads as annotation-start-reads
-use Rattle.sheet.proofs.survey.Reads as survey-reads
 
 -- the sheet is whole, and the line is one of it
 found : (c : tie.Then1) → WholeGiven (readSheet (now (c .before .before .before .before .args .sheet))) (c .before .before .survey .result)

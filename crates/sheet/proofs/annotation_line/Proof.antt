@@ -14,10 +14,6 @@ use Rattle.sheet.specs.Steps.{stepOf}
 use Rattle.sheet.proofs.Annotated.{key-stuck, key-read, key-taken, key-free}
 use Rattle.sheet.proofs.annotation_line.Statement.{statement}
 use Rattle.sheet.proofs.annotation_line.Tie as tie
-use Rattle.sheet.proofs.annotation_line.Reads as reads
-use Rattle.sheet.proofs.annotation_line.Lts as lts
-use Rattle.sheet.proofs.closed_run.Reads as closed-run-reads
-use Rattle.sheet.proofs.is_free.Reads as is-free-reads
 
 closed-run-requires : tie.Need-closed-run-requires
 closed-run-requires c κs = search needs

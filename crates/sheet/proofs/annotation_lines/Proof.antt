@@ -15,9 +15,6 @@ use Rattle.sheet.proofs.Counting.{counted}
 use Rattle.sheet.proofs.Annotated.{One, one-line, lines-stuck, lines-all}
 use Rattle.sheet.proofs.annotation_lines.Statement.{statement}
 use Rattle.sheet.proofs.annotation_lines.Tie as tie
-use Rattle.sheet.proofs.annotation_lines.Reads as reads
-use Rattle.sheet.proofs.annotation_lines.Lts as lts
-use Rattle.sheet.proofs.annotation_line.Reads as annotation-line-reads
 
 abbrev Inv-loop : tie.InvT-loop
 Inv-loop s from at₀ many₀ at many =

@@ -12,9 +12,6 @@ use Rattle.sheet.specs.Given.{tailFrom, fieldsIn}
 use Rattle.sheet.proofs.Parts.{few-lines, LineIn, line-in, line-from}
 use Rattle.sheet.proofs.annotation_start.Statement.{statement}
 use Rattle.sheet.proofs.annotation_start.Tie as tie
-use Rattle.sheet.proofs.annotation_start.Reads as reads
-use Rattle.sheet.proofs.annotation_start.Lts as lts
-use Rattle.sheet.proofs.annotation_line.Reads as annotation-line-reads
 
 abbrev Inv-loop : tie.InvT-loop
 Inv-loop s from n at₀ k₀ at k =

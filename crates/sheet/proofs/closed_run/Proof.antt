@@ -6,9 +6,6 @@ use Rattle.sheet.specs.Steps.{classOf}
 use Rattle.sheet.proofs.Stepped.{closed-short, closed-end, closed-got, closed-off}
 use Rattle.sheet.proofs.closed_run.Statement.{statement}
 use Rattle.sheet.proofs.closed_run.Tie as tie
-use Rattle.sheet.proofs.closed_run.Reads as reads
-use Rattle.sheet.proofs.closed_run.Lts as lts
-use Rattle.sheet.proofs.run.Reads as run-reads
 
 run-requires : tie.Need-run-requires
 run-requires c κs = search needs

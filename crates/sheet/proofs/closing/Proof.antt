@@ -5,8 +5,6 @@ use denote.Ref.{now}
 use Rattle.sheet.proofs.Counting.{closing-end, closing-got, closing-off}
 use Rattle.sheet.proofs.closing.Statement.{statement}
 use Rattle.sheet.proofs.closing.Tie as tie
-use Rattle.sheet.proofs.closing.Reads as reads
-use Rattle.sheet.proofs.closing.Lts as lts
 
 returns : tie.Need-returns
 returns c =

@@ -8,8 +8,6 @@ use Rattle.text.specs.Combine.{common}
 use Rattle.text.proofs.Scans.{common-over, common-end, common-off, common-more, common-start}
 use Rattle.sheet.proofs.common_bytes.Statement.{statement}
 use Rattle.sheet.proofs.common_bytes.Tie as tie
-use Rattle.sheet.proofs.common_bytes.Reads as reads
-use Rattle.sheet.proofs.common_bytes.Lts as lts
 
 abbrev Inv-loop : tie.InvT-loop
 Inv-loop s at key n₀ n = (n ≤ length key) × (at + n ≤ length s) × (common key (drop at s) ≡ n + common (drop n key) (drop (at + n) s))

@@ -8,10 +8,6 @@ use Rattle.sheet.specs.Read.{readNumber}
 use Rattle.sheet.proofs.Counting.{led-count-short, led-count}
 use Rattle.sheet.proofs.count_line.Statement.{statement}
 use Rattle.sheet.proofs.count_line.Tie as tie
-use Rattle.sheet.proofs.count_line.Reads as reads
-use Rattle.sheet.proofs.count_line.Lts as lts
-use Rattle.sheet.proofs.common_bytes.Reads as common-bytes-reads
-use Rattle.sheet.proofs.write_number.Reads as write-number-reads
 
 slice-aggregate-common-bytes : tie.Need-slice-aggregate-common-bytes
 slice-aggregate-common-bytes c = search needs

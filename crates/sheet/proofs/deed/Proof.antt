@@ -13,9 +13,6 @@ use Rattle.sheet.specs.Given.{fieldsIn, deedFrom}
 use Rattle.sheet.proofs.Parts.{WholeGiven, whole-given, broken-given, deed-at, deed-within, part-move}
 use Rattle.sheet.proofs.deed.Statement.{statement}
 use Rattle.sheet.proofs.deed.Tie as tie
-use Rattle.sheet.proofs.deed.Reads as reads
-use Rattle.sheet.proofs.deed.Lts as lts
-use Rattle.sheet.proofs.survey.Reads as survey-reads
 
 -- the sheet is whole, and the deed lies within it
 found : (c : tie.After-struct-known) → WholeGiven (readSheet (now (c .before .before .before .before .args .sheet))) (c .before .before .survey .result)

@@ -4,8 +4,6 @@ use borrow.Author.Needs.{needs}
 use Rattle.text.proofs.Hexes.{lowest}
 use Rattle.sheet.proofs.digit_of.Statement.{statement}
 use Rattle.sheet.proofs.digit_of.Tie as tie
-use Rattle.sheet.proofs.digit_of.Reads as reads
-use Rattle.sheet.proofs.digit_of.Lts as lts
 
 sub-result : tie.Need-sub-result
 sub-result c = lowest (c .before .args .b) (c .before .pre)

@@ -10,9 +10,6 @@ use Rattle.text.specs.Hex.{hexFrom, hexValue, unhex}
 use Rattle.sheet.proofs.Fields.{digit-at}
 use Rattle.sheet.proofs.hex_value.Statement.{statement}
 use Rattle.sheet.proofs.hex_value.Tie as tie
-use Rattle.sheet.proofs.hex_value.Reads as reads
-use Rattle.sheet.proofs.hex_value.Lts as lts
-use Rattle.sheet.proofs.digit_of.Reads as digit-of-reads
 
 abbrev Inv-loop : tie.InvT-loop
 Inv-loop s at n v₀ i₀ v i =

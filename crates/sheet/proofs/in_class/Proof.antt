@@ -8,9 +8,6 @@ use Rattle.sheet.specs.Steps.{classOf}
 use Rattle.sheet.specs.declared.Class.{Class}
 use Rattle.sheet.proofs.in_class.Statement.{statement}
 use Rattle.sheet.proofs.in_class.Tie as tie
-use Rattle.sheet.proofs.in_class.Reads as reads
-use Rattle.sheet.proofs.in_class.Lts as lts
-use Rattle.sheet.proofs.within.Reads as within-reads
 
 -- the class that the arm is of
 of-class : {k k′ : Class} (b : ℕ) → k′ ≡ k → classOf k b ≡ classOf k′ b

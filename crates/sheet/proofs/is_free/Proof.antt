@@ -2,9 +2,6 @@
 use borrow.Author.Needs.{needs}
 use Rattle.sheet.proofs.is_free.Statement.{statement}
 use Rattle.sheet.proofs.is_free.Tie as tie
-use Rattle.sheet.proofs.is_free.Reads as reads
-use Rattle.sheet.proofs.is_free.Lts as lts
-use Rattle.sheet.proofs.is_key.Reads as is-key-reads
 
 slice-aggregate-is-key : tie.Need-slice-aggregate-is-key
 slice-aggregate-is-key c = search needs

@@ -5,9 +5,6 @@ use denote.Ref.{now}
 use Rattle.sheet.proofs.Stepped.{word-same, word-other}
 use Rattle.sheet.proofs.is_key.Statement.{statement}
 use Rattle.sheet.proofs.is_key.Tie as tie
-use Rattle.sheet.proofs.is_key.Reads as reads
-use Rattle.sheet.proofs.is_key.Lts as lts
-use Rattle.sheet.proofs.common_bytes.Reads as common-bytes-reads
 
 common-bytes-requires : tie.Need-common-bytes-requires
 common-bytes-requires c κs = search needs

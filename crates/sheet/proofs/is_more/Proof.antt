@@ -6,9 +6,6 @@ use borrow.Author.Needs.{needs}
 use Rattle.text.proofs.Tests.{between-le}
 use Rattle.sheet.proofs.is_more.Statement.{statement}
 use Rattle.sheet.proofs.is_more.Tie as tie
-use Rattle.sheet.proofs.is_more.Reads as reads
-use Rattle.sheet.proofs.is_more.Lts as lts
-use Rattle.sheet.proofs.within.Reads as within-reads
 
 -- c is a digit
 digits : (c : tie.Then1) → (48 ≤ c .before .before .args .c) × (c .before .before .args .c ≤ 57)

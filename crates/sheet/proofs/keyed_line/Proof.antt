@@ -8,10 +8,6 @@ use Rattle.sheet.specs.Steps.{classOf, stepOf}
 use Rattle.sheet.proofs.Stepped.{led-short, led-step}
 use Rattle.sheet.proofs.keyed_line.Statement.{statement}
 use Rattle.sheet.proofs.keyed_line.Tie as tie
-use Rattle.sheet.proofs.keyed_line.Reads as reads
-use Rattle.sheet.proofs.keyed_line.Lts as lts
-use Rattle.sheet.proofs.closed_run.Reads as closed-run-reads
-use Rattle.sheet.proofs.common_bytes.Reads as common-bytes-reads
 
 common-bytes-requires : tie.Need-common-bytes-requires
 common-bytes-requires c κs = search needs

@@ -9,9 +9,6 @@ use Rattle.sheet.specs.Given.{padded}
 use Rattle.sheet.proofs.Parts.{whole-given, broken-given, count-given}
 use Rattle.sheet.proofs.read.Statement.{statement}
 use Rattle.sheet.proofs.read.Tie as tie
-use Rattle.sheet.proofs.read.Reads as reads
-use Rattle.sheet.proofs.read.Lts as lts
-use Rattle.sheet.proofs.survey.Reads as survey-reads
 
 survey-requires : tie.Need-survey-requires
 survey-requires c κs = search needs

@@ -12,9 +12,6 @@ use Rattle.text.proofs.Scans.{span-over, span-end, span-off, span-more, span-st
 use Rattle.sheet.specs.Steps.{classOf}
 use Rattle.sheet.proofs.run.Statement.{statement}
 use Rattle.sheet.proofs.run.Tie as tie
-use Rattle.sheet.proofs.run.Reads as reads
-use Rattle.sheet.proofs.run.Lts as lts
-use Rattle.sheet.proofs.in_class.Reads as in-class-reads
 
 abbrev Inv-loop : tie.InvT-loop
 Inv-loop s at class most n₀ n = (at + n ≤ length s) × (span (classOf class) most (drop at s) ≡ n + span (classOf class) (most - n) (drop (at + n) s))

@@ -9,10 +9,6 @@ use Rattle.sheet.proofs.Numbers.{more-le}
 use Rattle.sheet.proofs.Counting.{second-end, second-more, second-less}
 use Rattle.sheet.proofs.second_digit.Statement.{statement}
 use Rattle.sheet.proofs.second_digit.Tie as tie
-use Rattle.sheet.proofs.second_digit.Reads as reads
-use Rattle.sheet.proofs.second_digit.Lts as lts
-use Rattle.sheet.proofs.closing.Reads as closing-reads
-use Rattle.sheet.proofs.is_more.Reads as is-more-reads
 
 -- the byte after the first digit is a digit
 digits : (c : tie.Then2) → (48 ≤ getD (now (c .before .before .before .before .before .args .s)) (c .before .before .before .before .before .args .at) 0) × (getD (now (c .before .before .before .before .before .args .s)) (c .before .before .before .before .before .args .at) 0 ≤ 57)

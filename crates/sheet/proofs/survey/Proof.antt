@@ -22,14 +22,6 @@ use Rattle.sheet.proofs.Fields.{field, hex-field, hex-stuck}
 use Rattle.sheet.proofs.Surveyed.{DeedAt, PinsAt, CountAt, WritesAt, count-most, stuck-deed, stuck-pins, stuck-count, stuck-writes, stuck-annotations, outlined}
 use Rattle.sheet.proofs.survey.Statement.{statement}
 use Rattle.sheet.proofs.survey.Tie as tie
-use Rattle.sheet.proofs.survey.Reads as reads
-use Rattle.sheet.proofs.survey.Lts as lts
-use Rattle.sheet.proofs.annotation_lines.Reads as annotation-lines-reads
-use Rattle.sheet.proofs.broken.Reads as broken-reads
-use Rattle.sheet.proofs.count_line.Reads as count-line-reads
-use Rattle.sheet.proofs.hex_value.Reads as hex-value-reads
-use Rattle.sheet.proofs.keyed_line.Reads as keyed-line-reads
-use Rattle.sheet.proofs.write_lines.Reads as write-lines-reads
 
 -- the sheet's length is a number of the machine
 short : (c : tie.After-shared-slice-known) → length (now (c .before .args .s)) < 2 ^ 64

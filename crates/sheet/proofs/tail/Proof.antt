@@ -13,9 +13,6 @@ use Rattle.sheet.specs.Given.{fieldsIn, tailFrom}
 use Rattle.sheet.proofs.Parts.{WholeGiven, whole-given, broken-given, tail-at, tail-size, part-move}
 use Rattle.sheet.proofs.tail.Statement.{statement}
 use Rattle.sheet.proofs.tail.Tie as tie
-use Rattle.sheet.proofs.tail.Reads as reads
-use Rattle.sheet.proofs.tail.Lts as lts
-use Rattle.sheet.proofs.survey.Reads as survey-reads
 
 -- the sheet is whole, and the annotation lines are its end
 found : (c : tie.Then1) → WholeGiven (readSheet (now (c .before .before .before .args .sheet))) (c .before .survey .result)

@@ -15,10 +15,6 @@ use Rattle.sheet.proofs.Fields.{HexField, hex-field, hex-stuck}
 use Rattle.sheet.proofs.Written.{Filled, filled-none, filled-more, filled-all, filled-stuck}
 use Rattle.sheet.proofs.write_lines.Statement.{statement}
 use Rattle.sheet.proofs.write_lines.Tie as tie
-use Rattle.sheet.proofs.write_lines.Reads as reads
-use Rattle.sheet.proofs.write_lines.Lts as lts
-use Rattle.sheet.proofs.hex_value.Reads as hex-value-reads
-use Rattle.sheet.proofs.keyed_line.Reads as keyed-line-reads
 
 abbrev Inv-loop : tie.InvT-loop
 Inv-loop s from count out₀ at₀ i₀ t8 out at i =

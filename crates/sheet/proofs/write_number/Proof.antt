@@ -9,10 +9,6 @@ use Rattle.text.proofs.Tests.{between-le}
 use Rattle.sheet.proofs.Counting.{number-end, number-more, number-off}
 use Rattle.sheet.proofs.write_number.Statement.{statement}
 use Rattle.sheet.proofs.write_number.Tie as tie
-use Rattle.sheet.proofs.write_number.Reads as reads
-use Rattle.sheet.proofs.write_number.Lts as lts
-use Rattle.sheet.proofs.second_digit.Reads as second-digit-reads
-use Rattle.sheet.proofs.within.Reads as within-reads
 
 -- the first byte is a digit
 digits : (c : tie.Then2) → (48 ≤ getD (now (c .before .before .before .before .before .args .s)) (c .before .before .before .before .before .args .at) 0) × (getD (now (c .before .before .before .before .before .args .s)) (c .before .before .before .before .before .args .at) 0 ≤ 57)

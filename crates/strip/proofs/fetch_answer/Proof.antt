@@ -1,100 +1,76 @@
 -- `strip::fetch_answer` meets its contract.
-use mathlib.Core.Path.{_≡_}
-use mathlib.Core.Bool.{false, not, _&&_}
+use Prim.Native.Nat.{ℕ, _*_}
+use mathlib.Core.Path.{_≡_, refl, ap}
+use mathlib.Core.List.{[], _∷_}
 use native.Mathlib.Omega.{arith}
-use lib.Dec.{ltb}
-use borrow.Author.Tests.{lt-ltb, le-ltb}
-use Rattle.settings.specs.Fields.{fast, graphics, external}
-use Rattle.settings.specs.Refusals.{imageFits}
+use Rattle.paper.specs.Told.{done}
+use Rattle.paper.proofs.Orders.{checked}
+use Rattle.settings.specs.Refusals.{stripLength, pinsAbove, externalText, fastRate, imageLength, shortStrip}
 use Rattle.settings.proofs.Widths.{width-le}
 use Rattle.strip.specs.Fetch.{fetchTold}
 use borrow.Author.Needs.{needs}
 use Rattle.strip.proofs.fetch_answer.Statement.{statement}
 use Rattle.strip.proofs.fetch_answer.Tie as tie
 
--- what is known past each test
-past1 : (c : tie.Else1) → ltb 63 (c .before .before .before .args .settings .look .pins) ≡ false
-past1 c = le-ltb _ _ (c .if1 .left)
-
-past2 : (c : tie.Else2) → not (graphics (c .before .before .before .before .before .before .args .settings .look)) && external (c .before .before .before .before .before .before .args .settings .look) ≡ false
-past2 c = rw (c .before .before .graphics .ensures, c .before .external .ensures) at (c .if2 .left)
-
-past3 : (c : tie.Else3) → fast (c .before .before .before .before .before .before .before .before .args .settings) ≡ false
-past3 c = rw (c .before .fast .ensures) at (c .if3 .left)
-
-past4 : (c : tie.Else4) → not (imageFits (c .before .before .before .before .before .before .before .before .before .before .args .image)) ≡ false
-past4 c = rw (c .before .image-fits .ensures) at (c .if4 .left)
-
-returns : tie.Need-returns
-unfolding fetchTold
-returns c = simp (lt-ltb _ _ (c .if1 .taken))
-
 graphics-requires : tie.Need-graphics-requires
 graphics-requires c κs = search needs
-
-external-requires : tie.Need-external-requires
-external-requires c κs = search needs
-
-returns-2 : tie.Need-returns-2
-unfolding fetchTold
-returns-2 c = simp (past1 (c .before .before .before), rw (c .before .before .graphics .ensures, c .before .external .ensures) at (c .if2 .taken))
-
-fast-requires : tie.Need-fast-requires
-fast-requires c κs = search needs
-
-returns-3 : tie.Need-returns-3
-unfolding fetchTold
-returns-3 c = simp (past1 (c .before .before .before .before .before), past2 (c .before .before), rw (c .before .fast .ensures) at (c .if3 .taken))
-
-image-fits-requires : tie.Need-image-fits-requires
-image-fits-requires c κs = search needs
-
-returns-4 : tie.Need-returns-4
-unfolding fetchTold
-returns-4 c = simp (past1 (c .before .before .before .before .before .before .before), past2 (c .before .before .before .before), past3 (c .before .before), rw (c .before .image-fits .ensures) at (c .if4 .taken))
 
 width-requires : tie.Need-width-requires
 width-requires c κs = search needs
 
 mul-total : tie.Need-mul-total
-mul-total c = omega (arith, c .width .ensures, width-le (c .before .before .before .before .before .before .before .before .before .before .before .args .settings .look))
+mul-total c = omega (arith, c .width .ensures, width-le (c .before .before .before .args .settings .look))
 
-returns-5 : tie.Need-returns-5
-unfolding fetchTold
-returns-5 c =
-    simp (
-      past1 (c .before .before .before .before .before .before .before .before .before),
-      past2 (c .before .before .before .before .before .before),
-      past3 (c .before .before .before .before),
-      past4 (c .before .before),
-      lt-ltb _ _ (rw (c .before .width .ensures) at (c .if5 .taken)),
-    )
+check-requires : tie.Need-check-requires
+check-requires c κs = search needs
 
-returns-6 : tie.Need-returns-6
+external-requires : tie.Need-external-requires
+external-requires c κs = search needs
+
+check-requires-2 : tie.Need-check-requires-2
+check-requires-2 c κs = search needs
+
+fast-requires : tie.Need-fast-requires
+fast-requires c κs = search needs
+
+check-requires-3 : tie.Need-check-requires-3
+check-requires-3 c κs = search needs
+
+image-fits-requires : tie.Need-image-fits-requires
+image-fits-requires c κs = search needs
+
+check-requires-4 : tie.Need-check-requires-4
+check-requires-4 c κs = search needs
+
+check-requires-5 : tie.Need-check-requires-5
+check-requires-5 c κs = search needs
+
+returns : tie.Need-returns
 unfolding fetchTold
-returns-6 c =
-    simp (
-      past1 (c .before .before .before .before .before .before .before .before .before),
-      past2 (c .before .before .before .before .before .before),
-      past3 (c .before .before .before .before),
-      past4 (c .before .before),
-      le-ltb _ _ (rw (c .before .width .ensures) at (c .if5 .left)),
-      c .before .width .ensures,
-    )
+returns c =
+    let s = c .before .before .before .before .before .before .before .before .before .before .before .before .args .settings in
+    let l = s .look in
+    let d = done (stripLength l) in
+    let e0 : done (192 * c .before .before .before .before .before .before .before .before .before .width .result) ≡ d = ap (λ (w : ℕ). done (192 * w)) (c .before .before .before .before .before .before .before .before .before .width .ensures) in
+    let e1 = checked d refl [] (pinsAbove l) tt e0 (c .before .before .before .before .before .before .before .check .ensures) in
+    let e2 = checked d refl (pinsAbove l ∷ []) (externalText l) tt e1 (rw (c .before .before .before .before .before .before .before .before .before .before .graphics .ensures, c .before .before .before .before .before .before .external .ensures) at (c .before .before .before .before .before .check2 .ensures)) in
+    let e3 = checked d refl (pinsAbove l ∷ externalText l ∷ []) (fastRate s) tt e2 (rw (c .before .before .before .before .fast .ensures) at (c .before .before .before .check3 .ensures)) in
+    let e4 = checked d refl (pinsAbove l ∷ externalText l ∷ fastRate s ∷ []) (imageLength (c .before .before .before .before .before .before .before .before .before .before .before .before .args .image)) tt e3 (rw (c .before .before .image-fits .ensures) at (c .before .check4 .ensures)) in
+    checked d refl (pinsAbove l ∷ externalText l ∷ fastRate s ∷ imageLength (c .before .before .before .before .before .before .before .before .before .before .before .before .args .image) ∷ []) (shortStrip l (c .before .before .before .before .before .before .before .before .before .before .before .before .args .strip)) tt e4 (rw (c .before .before .before .before .before .before .before .before .before .width .ensures) at (c .check5 .ensures))
 
 pub fetch-answer-spec : {M : Type 1} → statement M
 fetch-answer-spec =
     tie.close
     (tie.spec
-    returns
     graphics-requires
-    external-requires
-    returns-2
-    fast-requires
-    returns-3
-    image-fits-requires
-    returns-4
     width-requires
     mul-total
-    returns-5
-    returns-6)
+    check-requires
+    external-requires
+    check-requires-2
+    fast-requires
+    check-requires-3
+    image-fits-requires
+    check-requires-4
+    check-requires-5
+    returns)

@@ -1,38 +1,51 @@
 -- `wording::settings_answer` meets its contract.
-use borrow.Author.Tests.{lt-ltb, le-ltb}
+use Prim.Native.Nat.{ℕ, _*_}
+use mathlib.Core.Path.{_≡_, refl, ap, _∙_}
+use mathlib.Core.List.{[], _∷_}
+use native.Mathlib.Omega.{arith}
+use Rattle.paper.specs.Told.{done}
+use Rattle.paper.proofs.Orders.{checked}
+use Rattle.settings.specs.Refusals.{pinsAbove, externalText, fastRate}
 use borrow.Author.Needs.{needs}
 use Rattle.wording.proofs.settings_answer.Statement.{statement}
 use Rattle.wording.proofs.settings_answer.Tie as tie
 
-returns : tie.Need-returns
-returns c = simp (lt-ltb _ _ (c .if1 .taken))
-
 graphics-requires : tie.Need-graphics-requires
 graphics-requires c κs = search needs
+
+check-requires : tie.Need-check-requires
+check-requires c κs = search needs
 
 external-requires : tie.Need-external-requires
 external-requires c κs = search needs
 
-returns-2 : tie.Need-returns-2
-returns-2 c = simp (le-ltb _ _ (c .before .before .before .if1 .left), rw (c .before .before .graphics .ensures, c .before .external .ensures) at (c .if2 .taken))
+check-requires-2 : tie.Need-check-requires-2
+check-requires-2 c κs = search needs
 
 fast-requires : tie.Need-fast-requires
 fast-requires c κs = search needs
 
-returns-3 : tie.Need-returns-3
-returns-3 c = simp (le-ltb _ _ (c .before .before .before .before .before .if1 .left), rw (c .before .before .before .before .graphics .ensures, c .before .before .before .external .ensures) at (c .before .before .if2 .left), rw (c .before .fast .ensures) at (c .if3 .taken))
+check-requires-3 : tie.Need-check-requires-3
+check-requires-3 c κs = search needs
 
-returns-4 : tie.Need-returns-4
-returns-4 c = simp (le-ltb _ _ (c .before .before .before .before .before .if1 .left), rw (c .before .before .before .before .graphics .ensures, c .before .before .before .external .ensures) at (c .before .before .if2 .left), rw (c .before .fast .ensures) at (c .if3 .left))
+returns : tie.Need-returns
+returns c =
+    let s = c .before .before .before .before .before .before .before .before .args .settings in
+    let l = s .look in
+    let d = done 0 in
+    let e0 : done 0 ≡ d = refl in
+    let e1 = checked d refl ([]) (pinsAbove l) tt e0 (c .before .before .before .before .check .ensures) in
+    let e2 = checked d refl (pinsAbove l ∷ []) (externalText l) tt e1 (rw (c .before .before .before .before .before .before .graphics .ensures, c .before .before .before .external .ensures) at (c .before .before .check2 .ensures)) in
+    checked d refl (pinsAbove l ∷ externalText l ∷ []) (fastRate s) tt e2 (rw (c .before .fast .ensures) at (c .check3 .ensures))
 
 pub settings-answer-spec : {M : Type 1} → statement M
 settings-answer-spec =
     tie.close
     (tie.spec
-    returns
     graphics-requires
+    check-requires
     external-requires
-    returns-2
+    check-requires-2
     fast-requires
-    returns-3
-    returns-4)
+    check-requires-3
+    returns)
