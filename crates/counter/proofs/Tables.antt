@@ -1,12 +1,14 @@
 -- What document 01's table by V2-V0 says: bounds of the dividers, and what a line's end keeps of an address.
-use Prim.Native.Nat.{ℕ, _+_, _*_, _/_, _%_, _^_, _≤_, _<_}
+use Prim.Native.Nat.{ℕ, zero, suc, _+_, _*_, _/_, _%_, _^_, _≤_, _<_}
 use mathlib.Core.Path.{_≡_, refl}
 use mathlib.Core.Bool.{Bool, true, false, _||_}
+use mathlib.Core.List.{[], _∷_}
 use mathlib.Core.Logic.{_⊎_, inl, inr, ⊎-elim}
 use native.Mathlib.Omega.{arith}
 use native.Mathlib.Nat.{mod-lt, mod-eq-of-lt}
 use lib.Dec.{T, lit<, eqb, leb, eqb→eq, leb→le}
 use lib.ListN.{getD}
+use types.Run.{OneOf, hit}
 use Rattle.paper.proofs.Tables.{every, entry}
 use Rattle.settings.specs.declared.Settings.{Settings}
 use Rattle.settings.specs.Fields.{videoMode}
@@ -47,3 +49,32 @@ cleared-le s a = by-kept s (λ k. a / 2 ^ k * 2 ^ k + a % 2 ≤ a) (omega arith)
 -- `(a >> k) << k` loses no bit above
 pub shifted : (s : Settings) (a : ℕ) → a < 2 ^ 16 → a / 2 ^ kept s * 2 ^ kept s % 65536 ≡ a / 2 ^ kept s * 2 ^ kept s
 shifted s a h = mod-eq-of-lt (omega (arith, cleared-le s a))
+
+-- a fact about V2-V0, by the eight cases
+by-eight : (P : ℕ → Type 0) → P 0 → P 1 → P 2 → P 3 → P 4 → P 5 → P 6 → P 7 → (v : ℕ) → v < 8 → P v
+by-eight P a b c d e f g h zero l = a
+by-eight P a b c d e f g h (suc zero) l = b
+by-eight P a b c d e f g h (suc (suc zero)) l = c
+by-eight P a b c d e f g h (suc (suc (suc zero))) l = d
+by-eight P a b c d e f g h (suc (suc (suc (suc zero)))) l = e
+by-eight P a b c d e f g h (suc (suc (suc (suc (suc zero))))) l = f
+by-eight P a b c d e f g h (suc (suc (suc (suc (suc (suc zero)))))) l = g
+by-eight P a b c d e f g h (suc (suc (suc (suc (suc (suc (suc zero))))))) l = h
+by-eight P a b c d e f g h (suc (suc (suc (suc (suc (suc (suc (suc v)))))))) l = absurd (omega arith)
+
+-- the tables past the numbers that a choice names
+pub x-rest : (v : ℕ) → v < 8 → (v ≡ 1 → ⊥) → (v ≡ 3 → ⊥) → 1 ≡ getD timesX v 0
+x-rest =
+    by-eight (λ n. (n ≡ 1 → ⊥) → (n ≡ 3 → ⊥) → 1 ≡ getD timesX n 0)
+    (λ p q. refl) (λ p q. absurd (p refl)) (λ p q. refl) (λ p q. absurd (q refl)) (λ p q. refl) (λ p q. refl) (λ p q. refl) (λ p q. refl)
+
+pub y-rest : (v : ℕ) → v < 8 → (v ≡ 0 → ⊥) → (v ≡ 2 → ⊥) → (v ≡ 4 → ⊥) → 1 ≡ getD timesY v 0
+y-rest =
+    by-eight (λ n. (n ≡ 0 → ⊥) → (n ≡ 2 → ⊥) → (n ≡ 4 → ⊥) → 1 ≡ getD timesY n 0)
+    (λ p q r. absurd (p refl)) (λ p q r. refl) (λ p q r. absurd (q refl)) (λ p q r. refl) (λ p q r. absurd (r refl)) (λ p q r. refl) (λ p q r. refl) (λ p q r. refl)
+
+pub kept-rest : (v : ℕ) → v < 8 → (OneOf (0 ∷ 2 ∷ 4 ∷ 6 ∷ []) v → ⊥) → (OneOf (1 ∷ 3 ∷ 5 ∷ []) v → ⊥) → 1 ≡ getD keptFrom v 0
+kept-rest =
+    by-eight (λ n. (OneOf (0 ∷ 2 ∷ 4 ∷ 6 ∷ []) n → ⊥) → (OneOf (1 ∷ 3 ∷ 5 ∷ []) n → ⊥) → 1 ≡ getD keptFrom n 0)
+    (λ p q. absurd (p (hit (0 ∷ 2 ∷ 4 ∷ 6 ∷ []) 0 tt))) (λ p q. absurd (q (hit (1 ∷ 3 ∷ 5 ∷ []) 1 tt))) (λ p q. absurd (p (hit (0 ∷ 2 ∷ 4 ∷ 6 ∷ []) 2 tt))) (λ p q. absurd (q (hit (1 ∷ 3 ∷ 5 ∷ []) 3 tt)))
+    (λ p q. absurd (p (hit (0 ∷ 2 ∷ 4 ∷ 6 ∷ []) 4 tt))) (λ p q. absurd (q (hit (1 ∷ 3 ∷ 5 ∷ []) 5 tt))) (λ p q. absurd (p (hit (0 ∷ 2 ∷ 4 ∷ 6 ∷ []) 6 tt))) (λ p q. refl)

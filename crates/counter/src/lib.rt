@@ -1,7 +1,9 @@
 // The SAM's video address counter.
 use settings::Settings;
 ghost use mathlib.Core.Path.{_≡_};
-ghost use Rattle.counter.specs.Counter.{start, carry, advance, clear};
+ghost use Prim.Native.Nat.{_<_};
+ghost use lib.ListN.{getD};
+ghost use Rattle.counter.specs.Counter.{timesX, timesY, keptFrom, start, carry, advance, clear};
 
 // The address bits B0-B15, and the counts of the X and Y dividers.
 pub struct Counter {
@@ -10,12 +12,40 @@ pub struct Counter {
     pub y: u8,
 }
 
-const X: [usize; 8] = [1, 3, 1, 2, 1, 1, 1, 1];
+// X, Y and the lowest bit that a line's end keeps above B0, by V2-V0. Written as choices, so that none is laid out anew at each run.
+fn times_x(v: usize) -> usize
+    requires { ⌜ v < 8 ⌝ }
+    ensures { λ r. ⌜ r ≡ getD timesX v 0 ⌝ }
+{
+    match v {
+        1 => 3,
+        3 => 2,
+        _ => 1,
+    }
+}
 
-const Y: [usize; 8] = [12, 1, 3, 1, 2, 1, 1, 1];
+fn times_y(v: usize) -> usize
+    requires { ⌜ v < 8 ⌝ }
+    ensures { λ r. ⌜ r ≡ getD timesY v 0 ⌝ }
+{
+    match v {
+        0 => 12,
+        2 => 3,
+        4 => 2,
+        _ => 1,
+    }
+}
 
-// The lowest bit that a line's end keeps above B0.
-const KEPT: [u16; 8] = [5, 4, 5, 4, 5, 4, 5, 1];
+fn kept_from(v: usize) -> u16
+    requires { ⌜ v < 8 ⌝ }
+    ensures { λ r. ⌜ r ≡ getD keptFrom v 0 ⌝ }
+{
+    match v {
+        0 | 2 | 4 | 6 => 5,
+        1 | 3 | 5 => 4,
+        _ => 1,
+    }
+}
 
 // The counter before a frame's first byte.
 pub fn first(settings: Settings) -> Counter
@@ -38,7 +68,7 @@ impl Counter {
         let next = std::num::wrapping_add_u16(run, 16);
         let x = self.x;
         let y = self.y;
-        if (x as usize) + 1 < X[v] {
+        if (x as usize) + 1 < times_x(v) {
             return Counter {
                 address: run,
                 x: x + 1,
@@ -53,7 +83,7 @@ impl Counter {
                 y: y,
             };
         }
-        if (y as usize) + 1 < Y[v] {
+        if (y as usize) + 1 < times_y(v) {
             return Counter {
                 address: run - 16,
                 x: 0,
@@ -87,7 +117,7 @@ impl Counter {
         ensures { λ r. ⌜ r ≡ clear settings self ⌝ }
     {
         let v = settings::video_mode(settings);
-        let kept = KEPT[v];
+        let kept = kept_from(v);
         let address = self.address;
         Counter {
             address: ((address >> kept) << kept) + address % 2,

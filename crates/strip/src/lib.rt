@@ -5,7 +5,7 @@ use settings::Settings;
 ghost use mathlib.Core.Path.{_≡_};
 ghost use mathlib.Core.Bool.{true};
 ghost use Prim.Native.Nat.{_+_, _-_, _*_, _<_, _≤_, _/_};
-ghost use lib.ListN.{length, getD};
+ghost use lib.ListN.{length, getD, replicate};
 ghost use Rattle.paper.specs.Written.{Filled};
 ghost use Rattle.answer.specs.Told.{toldOf};
 ghost use Rattle.settings.specs.Modes.{width};
@@ -22,16 +22,39 @@ fn place(settings: Settings, size: usize, address: u16) -> usize
     (address as usize) & (size - 1)
 }
 
+// The 16 bytes of the image from the place `from` on. A local array overlaps nothing lent, so it is filled by one move.
+fn run_at(image: &[u8], from: usize) -> [u8; 16]
+    requires { ⌜ from + 16 ≤ length (now image) ⌝ }
+    ensures { λ r. ⌜ Filled (λ j. getD (now (image .entry)) (from + j) 0) 0 16 (replicate 16 0) r ⌝ }
+{
+    let mut run = [0u8; 16];
+    let mut j = 0;
+    while j < 16 {
+        run[j] = image[from + j];
+        j += 1;
+    }
+    run
+}
+
+// Puts a run into the strip, from `at` on.
+fn put_run(run: &[u8; 16], strip: &mut [u8], at: usize)
+    requires { ⌜ at + 16 ≤ length (now strip) ⌝ }
+    ensures { λ _. ⌜ Filled (λ k. getD (now (run .entry)) (k - at) 0) at (at + 16) (now (strip .entry)) (now (strip .exit)) ⌝ }
+{
+    let mut j = 0;
+    while j < 16 {
+        strip[at + j] = run[j];
+        j += 1;
+    }
+}
+
 // Copies an aligned run of 16 bytes of the image, from the place `from` on, to the strip, from `at` on.
 fn copy_run(image: &[u8], from: usize, strip: &mut [u8], at: usize)
     requires { ⌜ (from + 16 ≤ length (now image)) × (at + 16 ≤ length (now strip)) ⌝ }
     ensures { λ _. ⌜ Filled (λ k. getD (now (image .entry)) (from + (k - at)) 0) at (at + 16) (now (strip .entry)) (now (strip .exit)) ⌝ }
 {
-    let mut j = 0;
-    while j < 16 {
-        strip[at + j] = image[from + j];
-        j += 1;
-    }
+    let run = run_at(image, from);
+    put_run(&run, strip, at);
 }
 
 // Fetches a line of `runs` runs that starts with the counter `from`, to the strip from `at` on, and hands back the counter after it.

@@ -1,67 +1,22 @@
 -- `strip::copy_run` meets its contract.
-use Prim.Native.Nat.{ℕ, _+_, _-_, _≤_}
-use mathlib.Core.Path.{ap}
+use Prim.Native.Nat.{_-_, zero-le}
 use native.Mathlib.Omega.{arith}
-use lib.ListN.{getD}
-use denote.Ref.{now}
-use Rattle.paper.specs.Written.{Filled}
-use Rattle.paper.proofs.Fills.{none, step, upto}
+use Rattle.paper.proofs.Fills.{by}
+use borrow.Author.Needs.{needs}
 use Rattle.strip.proofs.copy_run.Statement.{statement}
 use Rattle.strip.proofs.copy_run.Tie as tie
 
-abbrev Inv-loop : tie.InvT-loop
-Inv-loop image from strip₀ at j₀ strip j = (j ≤ 16) × Filled (λ (k : ℕ). getD image (from + (k - at)) 0) at (at + j) strip₀ strip
+run-at-requires : tie.Need-run-at-requires
+run-at-requires c κs = search needs
 
-abbrev μ-loop : tie.MeasureT-loop
-μ-loop image from strip₀ at j₀ strip j = 16 - j
+put-run-requires : tie.Need-put-run-requires
+put-run-requires c κs = search needs
 
-loop-holds : tie.Need-loop-holds Inv-loop μ-loop
-loop-holds c = (omega arith, upto (omega arith) (none _ _ _))
+same-length : tie.Need-same-length
+same-length c = search needs
 
-add-strip : tie.Need-add-strip Inv-loop μ-loop
-add-strip c = omega arith
-
-shared-slice-read-strip : tie.Need-shared-slice-read-strip Inv-loop μ-loop
-shared-slice-read-strip c = omega arith
-
-add-strip-2 : tie.Need-add-strip-2 Inv-loop μ-loop
-add-strip-2 c = omega arith
-
-slice-write-strip : tie.Need-slice-write-strip Inv-loop μ-loop
-slice-write-strip c = omega (arith, c .before .before .loop .inv .1 .long)
-
-add-j : tie.Need-add-j Inv-loop μ-loop
-add-j c = omega arith
-
-loop-less : tie.Need-loop-less Inv-loop μ-loop
-loop-less c = omega arith
-
-loop-again : tie.Need-loop-again Inv-loop μ-loop
-loop-again c = (
-  omega arith,
-  step _ _ (c .before .before .loop .inv .1) (omega (arith, c .before .before .loop .inv .1 .long))
-      (ap (λ (j : ℕ). getD (now (c .before .before .before .args .image)) j 0) (omega arith)),
-)
-
-same-length : tie.Need-same-length Inv-loop μ-loop
-same-length c = c .before .loop .inv .1 .long
-
-returns : tie.Need-returns Inv-loop μ-loop
-returns c = upto (omega arith) (c .before .loop .inv .1)
+returns : tie.Need-returns
+returns c = by (λ k h l. c .before .before .before .before .before .run-at .ensures .is (k - c .before .before .before .before .before .before .before .before .args .at) zero-le (omega arith)) (c .before .before .put-run .ensures)
 
 pub copy-run-spec : {M : Type 1} → statement M
-copy-run-spec =
-    tie.close
-    (tie.spec
-    Inv-loop
-    μ-loop
-    loop-holds
-    add-strip
-    shared-slice-read-strip
-    add-strip-2
-    slice-write-strip
-    add-j
-    loop-less
-    loop-again
-    same-length
-    returns)
+copy-run-spec = tie.close (tie.spec run-at-requires put-run-requires same-length returns)
