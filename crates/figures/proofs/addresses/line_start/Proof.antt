@@ -1,0 +1,62 @@
+use borrow.Author.Needs.{needs}
+use Prim.Native.Nat.{_-_, _≤_}
+use Rattle.figures.proofs.addresses.line_start.Statement.{statement}
+use Rattle.figures.proofs.addresses.line_start.Tie as tie
+use Rattle.figures.proofs.addresses.line_start.Reads as reads
+use Rattle.figures.proofs.addresses.line_start.Lts as lts
+use Rattle.counter.proofs.Counter.line_end.Reads as line-end-reads
+use Rattle.counter.proofs.first.Reads as first-reads
+use Rattle.figures.proofs.addresses.bytes_on.Reads as bytes-on-reads
+
+abbrev Inv-loop : tie.InvT-loop
+Inv-loop settings wide line counter₀ n₀ counter n = Unit {0}
+
+abbrev μ-loop : tie.MeasureT-loop
+μ-loop settings wide line counter₀ n₀ counter n = line - n
+
+-- src/addresses.rt:22:9
+first-requires : tie.Need-first-requires Inv-loop μ-loop
+first-requires c κs = search needs
+
+-- src/addresses.rt:24:5
+loop-holds : tie.Need-loop-holds Inv-loop μ-loop
+loop-holds c = search needs
+
+-- src/addresses.rt:25:13
+bytes-on-requires : tie.Need-bytes-on-requires Inv-loop μ-loop
+bytes-on-requires c κs = search needs
+
+-- src/addresses.rt:26:9
+line-end-requires : tie.Need-line-end-requires Inv-loop μ-loop
+line-end-requires c κs = search needs
+
+-- src/addresses.rt:27:9
+add-n : tie.Need-add-n Inv-loop μ-loop
+add-n c = search needs
+
+-- src/addresses.rt:24:5
+loop-less : tie.Need-loop-less Inv-loop μ-loop
+loop-less c = search needs
+
+-- src/addresses.rt:24:5
+loop-again : tie.Need-loop-again Inv-loop μ-loop
+loop-again c = search needs
+
+-- src/addresses.rt:21:1
+returns : tie.Need-returns Inv-loop μ-loop
+returns c = search needs
+
+pub line-start-spec : {M : Type 1} → statement M
+line-start-spec =
+    tie.close
+    (tie.spec
+    Inv-loop
+    μ-loop
+    first-requires
+    loop-holds
+    bytes-on-requires
+    line-end-requires
+    add-n
+    loop-less
+    loop-again
+    returns)
