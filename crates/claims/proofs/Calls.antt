@@ -11,6 +11,9 @@ use Rattle.control.proofs.Unique.{play-op}
 use Rattle.strip.proofs.Unique.{fetch-op}
 use Rattle.frame.proofs.Unique.{draw-op}
 use Rattle.screen.proofs.Unique.{show-op}
+use Rattle.back.proofs.Unique.{read-back-op}
+use Rattle.wording.specs.declared.Text.{Text}
+use Rattle.wording.proofs.Unique.{report-op}
 
 -- a lent buffer
 abbrev pub Lent : Type 0
@@ -32,3 +35,13 @@ Draws κs l font strip frame z out = Allows draw-op κs (l, (font, (strip, (fram
 abbrev pub Shows : Lfts 4 → Settings → Lent → Lent → Lent → Lent → Answer → List ℕ → List ℕ → Type 0
 Shows κs s image font strip frame z bytes pixels =
     Allows show-op κs (s, (image, (font, (strip, (frame, tt))))) z (tt, (tt, (tt, (bytes, (pixels, tt)))))
+
+-- `read_back` may answer z and leave `out` in the strip
+abbrev pub ReadsBack : Lfts 2 → Look → Lent → Lent → Answer → List ℕ → Type 0
+ReadsBack κs l frame strip z out = Allows read-back-op κs (l, (frame, (strip, tt))) z (tt, (tt, (out, tt)))
+
+-- `report` may give the text r
+abbrev pub Reports : Lfts 1 → Lent → Text → Type 0
+Reports κs sheet r = Allows report-op κs (sheet, tt) r (tt, tt)
+
+-- the calls of `sheet` stand in crates/sheet/proofs/Annotations.antt: Reads, Deed, Line, Tail

@@ -4,7 +4,7 @@
 use Prim.Native.Nat.{ℕ, _≤_, _<_}
 use mathlib.Core.Path.{_≡_, refl, sym, ap, _∙_}
 use mathlib.Core.Bool.{Bool, true, false}
-use mathlib.Core.List.{List}
+use mathlib.Core.List.{List, _++_}
 use mathlib.Core.Logic.{_↔_}
 use contract.Lifetimes.{Lfts}
 use denote.Ref.{now}
@@ -30,7 +30,10 @@ use Rattle.frame.specs.Draw.{drawOrder, drawTold}
 use Rattle.frame.proofs.Draws.{accepted as draw-accepted, frame-done, frame-refused}
 use Rattle.screen.specs.Show.{showOrder, showTold}
 use Rattle.screen.proofs.Shows.{fetch-done, draw-done, shown-done, shown-refused}
-use Rattle.claims.proofs.Calls.{Lent, Plays, Fetches, Draws, Shows}
+use Rattle.back.specs.Read.{readByte}
+use Rattle.back.specs.Back.{lengthOrder, strayOrder, backTold}
+use Rattle.back.proofs.Backs.{back-accepted, strip-done as back-done, strip-kept}
+use Rattle.claims.proofs.Calls.{Lent, Plays, Fetches, Draws, Shows, ReadsBack}
 
 -- what is told is what the order says: each number exactly when its condition holds and none earlier does, done exactly when none does
 pub record Ordered (told : Told) (order : List Check) (value : ℕ) : Type 0 where
@@ -108,4 +111,14 @@ show-demand κs s image font strip frame z bytes pixels p = (
         p .1 .1 ∙ shown-done s (now image) (now font) (now strip) (now frame) _ _ d ∙ frame-done (s .look) (now font) (stripAfter s (now image) (now strip)) (now frame) f,
       ))
       (λ e. p .1 .1 ∙ shown-refused s (now image) (now font) (now strip) (now frame) _ _ (rw (p .0) at e)),
+)
+
+pub back-demand : (κs : Lfts 2) (l : Look) (frame strip : Lent) (z : Answer) (out : List ℕ) → ReadsBack κs l frame strip z out
+    → Ordered (toldOf z) (lengthOrder l (length (now strip)) (length (now frame)) ++ strayOrder l (now frame)) (stripLength l) × Guarded (toldOf z) (stripLength l) (now strip) out
+unfolding backTold lengthOrder strayOrder
+back-demand κs l frame strip z out p = (
+  ordered (lengthOrder l (length (now strip)) (length (now frame)) ++ strayOrder l (now frame)) (stripLength l) tt (p .0),
+  guarded (readByte l (now frame)) (stripLength l) (now strip)
+      (λ e. let d = rw (p .0) at e in (back-accepted l (now frame) (now strip) d .0 .strip-long, p .1 ∙ back-done l (now frame) (now strip) d))
+      (λ e. p .1 ∙ strip-kept l (now frame) (now strip) (rw (p .0) at e)),
 )

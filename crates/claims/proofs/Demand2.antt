@@ -3,21 +3,28 @@
 -- comes out byte for byte, in order, known key or not."
 use Prim.Native.Nat.{ℕ, _+_, _*_, _<_, _≤_}
 use mathlib.Core.Path.{_≡_, refl, sym, ap, _∙_}
+use mathlib.Core.Bool.{Bool, true, false}
 use mathlib.Core.List.{List, [], _∷_, _++_}
+use mathlib.Core.Logic.{_↔_}
 use native.Mathlib.Nat.{mul-comm, mul-le-mul-right, suc-mul}
 use native.Mathlib.Omega.{arith}
 use contract.Lifetimes.{Lfts}
 use denote.Ref.{now}
+use borrow.Author.Tests.{ltb-true, lt-ltb}
 use lib.Arith.{digits-div, digits-mod}
+use lib.Dec.{ltb}
 use lib.ListN.{length, getD}
-use Rattle.paper.specs.Told.{Told, done}
+use Rattle.paper.specs.Told.{Told, told, done}
 use Rattle.paper.specs.Written.{written}
+use Rattle.paper.specs.Choose.{choose}
+use Rattle.paper.specs.Order.{firstOf}
 use Rattle.paper.proofs.Orders.{done-says}
 use Rattle.paper.proofs.Fills.{written-fills}
 use Rattle.answer.specs.declared.Answer.{Answer}
 use Rattle.answer.specs.Told.{toldOf}
 use Rattle.settings.specs.declared.Look.{Look}
 use Rattle.settings.specs.declared.Settings.{Settings}
+use Rattle.settings.specs.Fields.{graphics}
 use Rattle.settings.specs.Modes.{width, border}
 use Rattle.settings.specs.Refusals.{stripLength, frameLength}
 use Rattle.control.specs.Control.{played, wordAfter, playOrder, playTold}
@@ -30,7 +37,22 @@ use Rattle.frame.specs.Draw.{drawOrder, drawTold}
 use Rattle.frame.proofs.Draws.{accepted, frame-done}
 use Rattle.screen.specs.Show.{showOrder, showTold}
 use Rattle.screen.proofs.Shows.{fetch-done, draw-done, shown-done}
-use Rattle.claims.proofs.Calls.{Lent, Plays, Fetches, Draws, Shows}
+use Rattle.back.specs.Read.{readByte}
+use Rattle.back.specs.Stray.{firstStray}
+use Rattle.back.specs.Back.{lengthOrder, strayOrder, backTold}
+use Rattle.back.proofs.Backs.{back-accepted, told-passed, strip-done as back-done}
+use Rattle.back.proofs.RoundTrip.{Bytes, Draws as DrawnBy, written-reads, drawn-read, no-strip}
+use Rattle.back.proofs.Trips.{drawn-is-read, read-as-drawn, read-is-drawn, drawn-as-read}
+use Rattle.text.specs.Code.{Longest}
+use Rattle.sheet.specs.Sheet.{nl, Fields, ValidSheet, front, render, sheets}
+use Rattle.sheet.specs.Given.{fieldsIn}
+use Rattle.sheet.specs.declared.Sheet.{Sheet}
+use Rattle.sheet.proofs.Annotations.{Reads, Line, Tail, joined, line-some, lines-join, tail-ends, tail-holds, accepted-sheet, refused-sheet}
+use Rattle.wording.specs.declared.Text.{Text}
+use Rattle.wording.specs.Words.{held}
+use Rattle.wording.specs.Report.{reportTold, reportOf}
+use Rattle.wording.proofs.Fits.{holds-report, ends-with-lines}
+use Rattle.claims.proofs.Calls.{Lent, Plays, Fetches, Draws, Shows, ReadsBack, Reports}
 
 -- the answer is done
 abbrev pub Done : Answer → Type 0
@@ -105,3 +127,80 @@ module _ (κs : Lfts 4) (s : Settings) (image font strip frame : Lent) (z : Answ
   shown-border =
       ap (λ (t : Told). t .value)
       (p .0 ∙ done-says (done (border (s .look))) refl (showOrder s (length (now image)) (length (now font)) (length (now strip)) (length (now frame))) tt (rw (p .0) at d))
+
+-- (iv) In graphics, what `draw` leaves `read_back` accepts, and gives the strip that was drawn.
+pub drawn-read-back : (κs : Lfts 3) (κs′ : Lfts 2) (l : Look) (font strip frame back : Lent) (z z′ : Answer) (out out′ : List ℕ) (drawn : Lent)
+    → graphics l ≡ true → Draws κs l font strip frame z out → Done z → now drawn ≡ out → stripLength l ≤ length (now back) → ReadsBack κs′ l drawn back z′ out′
+    → Done z′ × (Bytes (now strip) → (i : ℕ) → i < stripLength l → getD out′ i 0 ≡ getD (now strip) i 0)
+drawn-read-back κs κs′ l font strip frame back z z′ out out′ drawn g p d e room q =
+    let n = rw (p .0) at d in
+    let f = e ∙ p .1 in (
+      ap (λ (t : Told). t .number) (q .0) ∙ rw f (drawn-is-read l g (now font) (now strip) (now frame) (now back) n room),
+      λ bytes i h. rw (q .1, f) (read-as-drawn l g (now font) (now strip) (now frame) (now back) n room bytes i h),
+    )
+
+-- What `read_back` accepts is what `draw` leaves for the strip that it gave,
+pub read-drawn-again : (κs : Lfts 2) (κs′ : Lfts 3) (l : Look) (font frame strip again : Lent) (z z′ : Answer) (out out′ : List ℕ) (given : Lent)
+    → ReadsBack κs l frame strip z out → Done z → now given ≡ out → frameLength ≤ length (now again) → Draws κs′ l font given again z′ out′
+    → Done z′ × ((k : ℕ) → k < frameLength → getD out′ k 0 ≡ getD (now frame) k 0)
+read-drawn-again κs κs′ l font frame strip again z z′ out out′ given p d e room q =
+    let n = rw (p .0) at d in
+    let s = e ∙ p .1 in (
+      ap (λ (t : Told). t .number) (q .0) ∙ rw s (read-is-drawn l (now font) (now again) (now frame) (now strip) n room),
+      λ k h. rw (q .1, s) (drawn-as-read l (now font) (now again) (now frame) (now strip) n room k h),
+    )
+
+-- and that strip is the only one that draws the frame.
+pub one-strip : (κs : Lfts 2) (l : Look) (font : List ℕ) (frame strip : Lent) (z : Answer) (out : List ℕ) → ReadsBack κs l frame strip z out → Done z
+    → (S : List ℕ) → Bytes S → DrawnBy l font S (now frame) → (i : ℕ) → i < stripLength l → getD out i 0 ≡ getD S i 0
+one-strip κs l font frame strip z out p d S bytes draws i h =
+    let n = rw (p .0) at d in
+    let a = back-accepted l (now frame) (now strip) n .0 in
+    rw (p .1, back-done l (now frame) (now strip) n)
+    (written-reads l (now frame) (now strip) (a .strip-long) i h ∙ sym (drawn-read l (a .in-graphics) font S (now frame) draws bytes i h))
+
+nine-by : (b : Bool) (k v : ℕ) → (choose b (told 9 k 0) (done v) .number ≡ 9) ↔ (b ≡ true)
+nine-by true k v = (λ e. refl, λ e. refl)
+nine-by false k v = (λ e. absurd (omega arith), λ e. let z : _≡_ {A = ℕ} 0 1 = cc in absurd (omega arith))
+
+-- Where the lengths are right, 9 is told exactly if no strip draws the frame, at the first pixel that is stray.
+pub nine-exactly : (κs : Lfts 2) (l : Look) (font : List ℕ) (frame strip : Lent) (z : Answer) (out : List ℕ) → ReadsBack κs l frame strip z out → graphics l ≡ true
+    → firstOf (lengthOrder l (length (now strip)) (length (now frame))) (done (stripLength l)) .number ≡ 0
+    → ((toldOf z .number ≡ 9) ↔ ((S : List ℕ) → Bytes S → DrawnBy l font S (now frame) → ⊥)) × (toldOf z .number ≡ 9 → toldOf z .place ≡ firstStray l (now frame))
+unfolding strayOrder
+nine-exactly κs l font frame strip z out p g lengths =
+    let t = p .0 ∙ told-passed l (now frame) (now strip) lengths in
+    let n = nine-by (ltb (firstStray l (now frame)) 49152) (firstStray l (now frame)) (stripLength l) in
+    let m = no-strip l g font (now frame) in (
+      (λ e. m .0 (ltb-true _ _ (n .0 (rw t at e))), λ none. rw t (n .1 (lt-ltb _ _ (m .1 none)))),
+      λ e. rw (t, n .0 (rw t at e)),
+    )
+
+-- (v) Each annotation line by its number, with its line end, joined in order: they are the tail, and the tail is the end of the sheet.
+module _ (s : Lent) (κs : Lfts 1) (z : Sheet) (read : Reads κs s z) where
+  pub annotations-joined : (κr : ℕ → Lfts 1) (r : ℕ → Lent) → ((n : ℕ) → Line (κr n) s n (r n)) → (κt : Lfts 1) (t : Lent) → Tail κt s t
+      → joined (z .annotations) (λ n. now (r n) ++ nl) ≡ now t
+  annotations-joined κr r q κt t w = lines-join s κs κt κr z read r q t w
+
+  pub tail-ends-sheet : Done (z .answer) → (κt : Lfts 1) (t : Lent) → Tail κt s t → now s ≡ front (fieldsIn (now s)) ++ now t
+  tail-ends-sheet d κt t w = tail-ends s κs κt z read d t w
+
+  -- The count is the number of annotation lines.
+  pub counted-lines : (κr : Lfts 1) (n : ℕ) (r : Lent) → Line κr s n r → (0 < length (now r)) ↔ (n < z .annotations)
+  counted-lines κr n r q = line-some s κs κr z read n r q
+
+  -- An accepted sheet is the bytes of valid fields; a refused one is told 11 at the longest beginning that some accepted sheet has, and no fields make it.
+  pub whole-sheet : Done (z .answer) → ValidSheet (fieldsIn (now s)) × (now s ≡ render (fieldsIn (now s)))
+  whole-sheet d = accepted-sheet s κs z read d
+
+  pub broken-sheet : (Done (z .answer) → ⊥) → (toldOf (z .answer) .number ≡ 11) × Longest sheets (now s) (toldOf (z .answer) .place) × ((f : Fields) → ValidSheet f → now s ≡ render f → ⊥)
+  broken-sheet differ = refused-sheet s κs z read differ
+
+-- What the report prints is the report, and but for a broken sheet it ends with the annotation lines as they stand in the sheet.
+pub printed : (κs : Lfts 1) (s : Lent) (r : Text) → Reports κs s r → held r ≡ reportOf (now s)
+printed κs s r p = holds-report (now s) r p
+
+pub printed-ends : (κs κt : Lfts 1) (s t : Lent) (r : Text) → Reports κs s r → Tail κt s t → (reportTold (now s) .number ≡ 11 → ⊥) → (before : List ℕ) × (held r ≡ before ++ now t)
+printed-ends κs κt s t r p w h =
+    let e = ends-with-lines (now s) h in
+    (e .0, printed κs s r p ∙ e .1 ∙ ap (λ (x : List ℕ). e .0 ++ x) (sym (tail-holds s κt t w)))

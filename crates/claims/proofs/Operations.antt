@@ -9,7 +9,9 @@ use Rattle.counter.proofs.Unique as counter
 use Rattle.strip.proofs.Unique as strip
 use Rattle.frame.proofs.Unique as frame
 use Rattle.screen.proofs.Unique as screen
+use Rattle.back.proofs.Unique as back
 use Rattle.sheet.proofs.Unique as sheet
+use Rattle.wording.proofs.Unique as wording
 
 abbrev pub operations : List Operation
 operations =
@@ -37,10 +39,12 @@ operations =
     ∷ strip.fetch-op
     ∷ frame.draw-op
     ∷ screen.show-op
+    ∷ back.read-back-op
     ∷ sheet.read-op
     ∷ sheet.deed-op
     ∷ sheet.annotation-op
     ∷ sheet.tail-op
+    ∷ wording.report-op
     ∷ []
 
 -- each of them takes every input and fixes its outcome
@@ -70,10 +74,12 @@ all-fix =
     & strip.fetch-fixes
     & frame.draw-fixes
     & screen.show-fixes
+    & back.read-back-fixes
     & sheet.read-fixes
     & sheet.deed-fixes
     & sheet.annotation-fixes
     & sheet.tail-fixes
+    & wording.report-fixes
     & none
 
 -- the functions that the list is of, by the names that the compiler has for them
@@ -102,9 +108,11 @@ pub named : map (λ o. o .key) operations
     ∷ "strip::fetch"
     ∷ "frame::draw"
     ∷ "screen::show"
+    ∷ "back::read_back"
     ∷ "sheet::read"
     ∷ "sheet::deed"
     ∷ "sheet::annotation"
     ∷ "sheet::tail"
+    ∷ "wording::report"
     ∷ []
 named = refl

@@ -1,11 +1,12 @@
 -- What setting and clearing by a mask does to a word.
-use Prim.Native.Nat.{ℕ, suc, _+_, _-_, _*_, _/_, _%_, _^_, _<_, min, max}
+use Prim.Native.Nat.{ℕ, zero, suc, _+_, _-_, _*_, _/_, _%_, _^_, _<_, min, max}
 use mathlib.Core.Path.{_≡_, sym, ap, ap₂, _∙_}
 use native.Mathlib.Nat.{add-zero, add-mul, one-mul, mod-lt, mod-eq-of-lt, max-eq-right, min-zero, pow-suc, zero-lt-suc, div-lt-iff-lt-mul}
 use native.Mathlib.Omega.{arith}
 use lib.Arith.{dbl-pred}
+use lib.Dec.{lit<}
 use lib.Pow.{pow-pos, ones-lt, ones-split, split, shr-lt}
-use lib.Bits.{bitAnd, bitOr, or-block, and-block, or-step, and-step, or-zero-r, and-mask}
+use lib.Bits.{bitAnd, bitOr, or-block, and-block, or-step, and-step, or-zero-r, and-mask, and-le-l, or-lt}
 use Rattle.settings.proofs.Masks.{one-shl}
 use Rattle.control.specs.Control.{withBit}
 
@@ -51,3 +52,9 @@ clear-mask w k hw h =
     ap (λ (x : ℕ). bitAnd w (65535 - x)) (one-shl k h)
     ∙ ap (λ (x : ℕ). bitAnd w (2 ^ x - 1 - 2 ^ k)) e
     ∙ clear-at (15 - k) w k (rw (← e) hw)
+
+-- a word stays one of sixteen bits
+pub with-bit-small : (w k b : ℕ) → w < 2 ^ 16 → k < 16 → b < 2 → withBit w k b < 2 ^ 16
+with-bit-small w k zero hw h hb = rw (← clear-mask w k hw h) (omega (arith, and-le-l w (65535 - 1 * 2 ^ k % 65536)))
+with-bit-small w k (suc zero) hw h hb = rw (← set-mask w k h) (or-lt 16 w (1 * 2 ^ k % 65536) hw (mod-lt (1 * 2 ^ k) (lit< tt)))
+with-bit-small w k (suc (suc b)) hw h hb = absurd (omega arith)

@@ -48,8 +48,8 @@ both true t e = (refl, e)
 both false t e = (e, cc)
 
 -- an address of the control word writes one of its sixteen bits
-in-word-by : (a : ℕ) → isControl a ≡ true → (a - 0xFFC0) / 2 < 16
-in-word-by a e =
+pub in-word : (a : ℕ) → isControl a ≡ true → (a - 0xFFC0) / 2 < 16
+in-word a e =
     let u = both (leb 0xFFC0 a) (leb a 0xFFDF) e in
     let h : a ≤ 0xFFDF = leb-true a 0xFFDF (u .1) in
     omega arith
@@ -63,14 +63,14 @@ pub record Control (a k b : ℕ) : Type 0 where
 
 module _ (a k b : ℕ) where
   control-by : (t : Bool) → isControl a ≡ t → k ≡ choose t ((a - 0xFFC0) / 2) 16 → b ≡ choose t (a % 2) 0 → (k ≡ 16 → ⊥) → Control a k b
-  control-by true e p q n = record { control = e; bit = p; value = q; small = (omega (arith, in-word-by a e), omega arith) }
+  control-by true e p q n = record { control = e; bit = p; value = q; small = (omega (arith, in-word a e), omega arith) }
   control-by false e p q n = absurd (n p)
 
   pub picked : Picks a k b → (k ≡ 16 → ⊥) → Control a k b
   picked p n = control-by (isControl a) refl (p .0) (p .1) n
 
   none-by : (t : Bool) → isControl a ≡ t → k ≡ choose t ((a - 0xFFC0) / 2) 16 → k ≡ 16 → isControl a ≡ false
-  none-by true e p q = absurd (omega (arith, in-word-by a e))
+  none-by true e p q = absurd (omega (arith, in-word a e))
   none-by false e p q = e
 
   -- and 16 by none

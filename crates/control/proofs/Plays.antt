@@ -1,17 +1,21 @@
 -- A turn of `play`: what the whole list comes to is what the rest comes to from here.
-use Prim.Native.Nat.{ℕ, _+_, _≤_, _<_}
+use Prim.Native.Nat.{ℕ, suc, _+_, _-_, _/_, _%_, _^_, _≤_, _<_}
 use mathlib.Core.Path.{_≡_, refl, sym, ap, _∙_}
 use mathlib.Core.Bool.{Bool, true, false}
 use mathlib.Core.List.{List, [], _∷_, _++_}
 use native.Mathlib.Nat.{add-zero}
 use native.Mathlib.Numerals.{add-one}
 use native.Mathlib.Omega.{arith}
-use borrow.Author.Tests.{lt-ltb, le-ltb}
+use borrow.Author.Tests.{lt-ltb, le-ltb, ltb-false}
 use lib.ListN.{length, drop, getD, drop-of-length-le}
 use lib.Seq.{drop-cons}
+use Rattle.paper.specs.Choose.{choose}
 use Rattle.paper.specs.Told.{Told, told, done}
-use Rattle.control.specs.Control.{withBit, isControl, wordAfter, played, firstElsewhere, playTold}
-use Rattle.control.proofs.Picks.{Control}
+use Rattle.paper.proofs.Choices.{of-both}
+use Rattle.paper.proofs.Orders.{done-when, done-says}
+use Rattle.control.specs.Control.{withBit, isControl, wordAfter, played, firstElsewhere, playOrder, playTold}
+use Rattle.control.proofs.Picks.{Control, in-word}
+use Rattle.control.proofs.Masks.{with-bit-small}
 
 -- i writes of the list are played, and `now` is the word after them
 pub record Upto (word : ℕ) (writes : List ℕ) (i now : ℕ) : Type 0 where
@@ -63,3 +67,28 @@ pub played-more : (w : ℕ) (writes : List ℕ) (a : ℕ) → played w (writes +
 unfolding played
 played-more w [] a = refl
 played-more w (b ∷ writes) a = played-more (wordAfter w b) writes a
+
+elsewhere-le : (writes : List ℕ) → firstElsewhere writes ≤ length writes
+unfolding firstElsewhere
+elsewhere-le [] = omega arith
+elsewhere-le (a ∷ writes) = of-both (λ (n : ℕ). n ≤ suc (length writes)) (isControl a) (omega (arith, elsewhere-le writes)) (omega arith)
+
+played-by : (w a : ℕ) (writes : List ℕ) (t : Bool) → isControl a ≡ t → w < 2 ^ 16 → choose t (suc (firstElsewhere writes)) 0 ≡ suc (length writes)
+    → ((v : ℕ) → v < 2 ^ 16 → firstElsewhere writes ≡ length writes → played v writes < 2 ^ 16) → played (wordAfter w a) writes < 2 ^ 16
+unfolding wordAfter
+played-by w a writes true e h p more = more (wordAfter w a) (with-bit-small w ((a - 0xFFC0) / 2) (a % 2) h (in-word a e) (omega arith)) (omega arith)
+played-by w a writes false e h p more = absurd (omega arith)
+
+-- a list that is not refused leaves a word of sixteen bits
+pub played-small : (writes : List ℕ) (w : ℕ) → w < 2 ^ 16 → firstElsewhere writes ≡ length writes → played w writes < 2 ^ 16
+unfolding played firstElsewhere
+played-small [] w h e = h
+played-small (a ∷ writes) w h e = played-by w a writes (isControl a) refl h e (λ v k q. played-small writes v k q)
+
+-- and such a list is told done with it
+pub played-done : (w : ℕ) (writes : List ℕ) → w < 2 ^ 16 → playTold w writes .number ≡ 0 → (playTold w writes ≡ done (played w writes)) × (played w writes < 2 ^ 16)
+unfolding playTold
+played-done w writes h e =
+    let n = done-when (done (played w writes)) refl (playOrder w writes) tt .0 e in
+    let l : length writes ≤ firstElsewhere writes = ltb-false _ _ (n .0) in
+    (done-says (done (played w writes)) refl (playOrder w writes) tt e, played-small writes w h (omega (arith, elsewhere-le writes)))

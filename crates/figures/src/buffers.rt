@@ -23,22 +23,6 @@ fn number(b: u8) -> usize {
     b as usize
 }
 
-// The first n bytes, or all where there are fewer.
-pub(crate) fn cut(s: &[u8], n: usize) -> &[u8] {
-    if n < s.len() {
-        return &s[..n];
-    }
-    s
-}
-
-// The first n bytes to be written, or all where there are fewer.
-pub(crate) fn room(s: &mut [u8], n: usize) -> &mut [u8] {
-    if n < s.len() {
-        return &mut s[..n];
-    }
-    s
-}
-
 // Puts one byte everywhere.
 pub(crate) fn fill(s: &mut [u8], b: u8) {
     let mut i: usize = 0;
@@ -68,32 +52,4 @@ pub(crate) fn mark(s: &mut [u8]) {
         b = std::num::wrapping_add_u8(b, 5);
         i += 1;
     }
-}
-
-// The place from which on a buffer is as it was marked: 0 where it was kept whole.
-pub(crate) fn kept_from(s: &[u8]) -> usize {
-    let mut b: u8 = 131;
-    let mut from: usize = 0;
-    let mut i: usize = 0;
-    while i < s.len() {
-        if !(s[i] == b) {
-            from = i + 1;
-        }
-        b = std::num::wrapping_add_u8(b, 5);
-        i += 1;
-    }
-    from
-}
-
-// The place from which on s is as t: 0 where they are alike.
-pub(crate) fn alike_from(s: &[u8], t: &[u8]) -> usize {
-    let mut from: usize = 0;
-    let mut i: usize = 0;
-    while i < s.len() {
-        if !(at(s, i) == at(t, i)) {
-            from = i + 1;
-        }
-        i += 1;
-    }
-    from
 }

@@ -1,6 +1,6 @@
 -- The laws of drawing, and that its contract fixes its outcome.
 pub mod Stretches
-pub mod Shades
-pub mod Glyphs
+pub mod Plots
+pub mod Tints
 pub mod Draws
 pub mod Unique

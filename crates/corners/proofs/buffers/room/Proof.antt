@@ -1,0 +1,22 @@
+use lib.ListN.{length-take}
+use native.Mathlib.Omega.{arith}
+use borrow.Author.Needs.{needs}
+use Rattle.corners.proofs.buffers.room.Statement.{statement}
+use Rattle.corners.proofs.buffers.room.Tie as tie
+use Rattle.corners.proofs.buffers.room.Reads as reads
+use Rattle.corners.proofs.buffers.room.Lts as lts
+
+-- src/buffers.rt:19:9
+slice-aggregate-result : tie.Need-slice-aggregate-result
+slice-aggregate-result c = omega (arith, length-take (c .before .before .args .n) (c .before .before .args .s .now))
+
+-- src/buffers.rt:19:9
+returns : tie.Need-returns
+returns c = search needs
+
+-- src/buffers.rt:17:1
+returns-2 : tie.Need-returns-2
+returns-2 c = search needs
+
+pub room-spec : {M : Type 1} → statement M
+room-spec = tie.close (tie.spec slice-aggregate-result returns returns-2)

@@ -1,0 +1,8 @@
+-- The laws of the report, and that its contract fixes its outcome.
+pub mod Decimals
+pub mod Texts
+pub mod Values
+pub mod Judges
+pub mod Fits
+pub mod Enough
+pub mod Unique

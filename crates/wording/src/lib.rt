@@ -1,0 +1,245 @@
+// The report's text, whole.
+use answer::Answer;
+use settings::Look;
+use settings::Settings;
+ghost use mathlib.Core.Path.{_≡_};
+ghost use Prim.Native.Nat.{_+_, _≤_, _<_};
+ghost use mathlib.Core.List.{[], _++_};
+ghost use lib.ListN.{length, take, drop};
+ghost use Rattle.paper.specs.Told.{done};
+ghost use Rattle.paper.specs.Order.{firstOf};
+ghost use Rattle.answer.specs.Told.{toldOf};
+ghost use Rattle.text.specs.Hex.{hexDigit, hex};
+ghost use Rattle.sheet.specs.Sheet.{nl};
+ghost use Rattle.sheet.specs.Given.{fieldsIn};
+ghost use Rattle.wording.specs.Words.{decimal, room, textOf, held, Holds};
+ghost use Rattle.wording.specs.Report.{settingsIn, settingOrder, reportTold, settingLines, annotated, reportOf};
+
+// The report's own keys; `deed=` and `pins=` are the sheet's.
+const STATUS_KEY: [u8; 7] = *b"status=";
+
+const PLACE_KEY: [u8; 6] = *b"place=";
+
+const CONTROL_KEY: [u8; 8] = *b"control=";
+
+const MODE_KEY: [u8; 5] = *b"mode=";
+
+const START_KEY: [u8; 6] = *b"start=";
+
+const ANNOTATIONS_KEY: [u8; 12] = *b"annotations=";
+
+// A report: the first `len` bytes, the rest 0.
+pub struct Text {
+    pub bytes: [u8; 32768],
+    pub len: usize,
+}
+
+// The digits of a number: those from `from` on.
+struct Digits {
+    bytes: [u8; 20],
+    from: usize,
+}
+
+// A number in decimal.
+fn decimal(n: usize) -> Digits
+    ensures { λ r. ⌜ (drop (r .from) (r .bytes) ≡ decimal n) × (r .from ≤ 20) × (length (r .bytes) ≡ 20) ⌝ }
+{
+    let mut bytes = [0u8; 20];
+    let mut from: usize = 20;
+    let mut rest = n;
+    while 10 <= rest {
+        from -= 1;
+        bytes[from] = 48 + (rest % 10) as u8;
+        rest = rest / 10;
+    }
+    from -= 1;
+    bytes[from] = 48 + rest as u8;
+    Digits { bytes, from }
+}
+
+// The byte of a hex digit.
+fn hex_digit(d: u16) -> u8
+    requires { ⌜ d < 16 ⌝ }
+    ensures { λ r. ⌜ r ≡ hexDigit d ⌝ }
+{
+    if d < 10 { 48 + d as u8 } else { 55 + d as u8 }
+}
+
+// A number in four hex digits.
+fn hex(n: u16) -> [u8; 4]
+    ensures { λ r. ⌜ r ≡ hex 4 n ⌝ }
+{
+    [
+        hex_digit(n / 4096),
+        hex_digit(n % 4096 / 256),
+        hex_digit(n % 4096 % 256 / 16),
+        hex_digit(n % 4096 % 256 % 16),
+    ]
+}
+
+// A text that holds nothing yet.
+fn blank() -> Text
+    ensures { λ r. ⌜ r ≡ textOf [] ⌝ }
+{
+    Text {
+        bytes: [0u8; 32768],
+        len: 0,
+    }
+}
+
+// The text with a part more.
+fn append(text: Text, part: &[u8]) -> Text
+    requires { ⌜ Holds text × (text .len + length (now part) ≤ room) ⌝ }
+    ensures { λ r. ⌜ r ≡ textOf (held text ++ now (part .entry)) ⌝ }
+    ensures { λ r. ⌜ Holds r × (r .len ≡ text .len + length (now (part .entry))) ⌝ }
+{
+    let at = text.len;
+    let mut bytes = text.bytes;
+    let mut i: usize = 0;
+    while i < part.len() {
+        bytes[at + i] = part[i];
+        i += 1;
+    }
+    Text {
+        bytes,
+        len: at + part.len(),
+    }
+}
+
+// The text with a line more: a word with its `=`, a value, and the line end.
+fn line(text: Text, word: &[u8], value: &[u8]) -> Text
+    requires { ⌜ Holds text × (text .len + (length (now word) + (length (now value) + 1)) ≤ room) ⌝ }
+    ensures { λ r. ⌜ r ≡ textOf (held text ++ (now (word .entry) ++ (now (value .entry) ++ nl))) ⌝ }
+    ensures { λ r. ⌜ Holds r × (r .len ≡ text .len + (length (now (word .entry)) + (length (now (value .entry)) + 1))) ⌝ }
+{
+    append(append(append(text, word), value), b"\n")
+}
+
+// The same with a number in decimal for the value.
+fn number_line(text: Text, word: &[u8], n: usize) -> Text
+    requires { ⌜ Holds text × (text .len + (length (now word) + 21) ≤ room) ⌝ }
+    ensures { λ r. ⌜ r ≡ textOf (held text ++ (now (word .entry) ++ (decimal n ++ nl))) ⌝ }
+    ensures { λ r. ⌜ Holds r × (r .len ≤ text .len + (length (now (word .entry)) + 21)) ⌝ }
+{
+    let digits = decimal(n);
+    let bytes = digits.bytes;
+    let from = digits.from;
+    line(text, word, &bytes[from..])
+}
+
+// The lines of the settings: pins, control, mode and start.
+fn setting_lines(text: Text, settings: Settings) -> Text
+    requires { ⌜ Holds text × (text .len ≤ 1000) ⌝ }
+    ensures { λ r. ⌜ r ≡ textOf (held text ++ settingLines settings) ⌝ }
+    ensures { λ r. ⌜ Holds r × (r .len ≤ text .len + 50) ⌝ }
+{
+    let look = settings.look;
+    let pins = hex(look.pins as u16);
+    let control = hex(settings.word);
+    let name = settings::mode_name(look);
+    let letters = name.bytes;
+    let len = name.len;
+    let first = counter::first(settings);
+    let start = hex(first.address);
+    let one = line(text, &sheet::PINS_KEY, &pins[2..]);
+    let two = line(one, &CONTROL_KEY, &control);
+    let three = line(two, &MODE_KEY, &letters[..len]);
+    line(three, &START_KEY, &start)
+}
+
+// The number of annotations, and the annotation lines as they stand in the sheet.
+fn annotated(text: Text, lent: &[u8], count: usize) -> Text
+    requires { ⌜ Holds text × (text .len ≤ 2000) × (count ≡ length (fieldsIn (now lent) .annotations)) ⌝ }
+    ensures { λ r. ⌜ r ≡ textOf (held text ++ annotated (now (lent .entry))) ⌝ }
+{
+    let counted = number_line(text, &ANNOTATIONS_KEY, count);
+    append(counted, sheet::tail(lent))
+}
+
+// What the report tells of a sheet, and what it reads off it.
+struct Judged {
+    answer: Answer,
+    settings: Settings,
+    annotations: usize,
+}
+
+// The report's checks of the settings: 1, 2, 4.
+fn settings_answer(settings: Settings) -> Answer
+    ensures { λ r. ⌜ toldOf r ≡ firstOf (settingOrder settings) (done 0) ⌝ }
+{
+    let look = settings.look;
+    if 63 < look.pins {
+        return Answer::PinsAbove;
+    }
+    if !settings::graphics(look) & settings::external(look) {
+        return Answer::External;
+    }
+    if settings::fast(settings) {
+        return Answer::FastRate;
+    }
+    Answer::Done(0)
+}
+
+// What the report tells of a sheet: 11, 10, 1, 2, 4. Its settings are those of a sheet whose writes are played.
+fn judge(lent: &[u8]) -> Judged
+    ensures { λ r. ⌜ toldOf (r .answer) ≡ reportTold (now (lent .entry)) ⌝ }
+    ensures { λ r. ⌜ (toldOf (r .answer) .number ≡ 0 → r .settings ≡ settingsIn (now (lent .entry))) ⌝ }
+    ensures { λ r. ⌜ r .annotations ≡ length (fieldsIn (now (lent .entry)) .annotations) ⌝ }
+{
+    let sheet = sheet::read(lent);
+    let read = sheet.answer;
+    let writes = sheet.writes;
+    let count = sheet.write_count;
+    let pins = sheet.pins;
+    let annotations = sheet.annotations;
+    let blank = Settings {
+        word: 0,
+        look: Look { pins },
+    };
+    if answer::number(read) != 0 {
+        return Judged {
+            answer: read,
+            settings: blank,
+            annotations,
+        };
+    }
+    let played = control::play(0, &writes[..count]);
+    if answer::number(played) != 0 {
+        return Judged {
+            answer: played,
+            settings: blank,
+            annotations,
+        };
+    }
+    let settings = Settings {
+        word: answer::value(played) as u16,
+        look: Look { pins },
+    };
+    Judged {
+        answer: settings_answer(settings),
+        settings,
+        annotations,
+    }
+}
+
+// The report of a sheet.
+pub fn report(sheet: &[u8]) -> Text
+    ensures { λ r. ⌜ r ≡ textOf (reportOf (now (sheet .entry))) ⌝ }
+{
+    let judged = judge(sheet);
+    let answer = judged.answer;
+    let settings = judged.settings;
+    let count = judged.annotations;
+    let number = answer::number(answer);
+    let status = number_line(blank(), &STATUS_KEY, number as usize);
+    if number == 0 {
+        let named = line(status, &sheet::DEED_KEY, sheet::deed(sheet));
+        return annotated(setting_lines(named, settings), sheet, count);
+    }
+    let placed = number_line(status, &PLACE_KEY, answer::place(answer));
+    if number == 11 {
+        return placed;
+    }
+    let named = line(placed, &sheet::DEED_KEY, sheet::deed(sheet));
+    annotated(named, sheet, count)
+}
