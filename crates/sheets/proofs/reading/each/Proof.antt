@@ -1,0 +1,64 @@
+use borrow.Author.Needs.{needs}
+use mathlib.Core.Path.{_≡_}
+use Prim.Native.Nat.{_+_, _-_, _≤_}
+use lib.ListN.{length}
+use Rattle.sheets.proofs.reading.each.Statement.{statement}
+use Rattle.sheets.proofs.reading.each.Tie as tie
+use Rattle.sheets.proofs.reading.each.Reads as reads
+use Rattle.sheets.proofs.reading.each.Lts as lts
+use Rattle.sheets.proofs.buffers.bar.Reads as bar-reads
+use Rattle.sheets.proofs.buffers.part.Reads as part-reads
+use Rattle.sheets.proofs.reading.joined.Reads as joined-reads
+
+abbrev Inv-loop : tie.InvT-loop
+Inv-loop head rests from₀ from = from ≤ length rests + 1
+
+abbrev μ-loop : tie.MeasureT-loop
+μ-loop head rests from₀ from = length rests + 1 - from
+
+-- src/reading.rt:52:5
+loop-holds : tie.Need-loop-holds Inv-loop μ-loop
+loop-holds c = search needs
+
+-- src/reading.rt:53:13
+bar-requires : tie.Need-bar-requires Inv-loop μ-loop
+bar-requires c κs = search needs
+
+-- src/reading.rt:54:22
+part-requires : tie.Need-part-requires Inv-loop μ-loop
+part-requires c κs = search needs
+
+-- src/reading.rt:54:9
+joined-requires : tie.Need-joined-requires Inv-loop μ-loop
+joined-requires c κs = search needs
+
+-- src/reading.rt:55:16
+add-from : tie.Need-add-from Inv-loop μ-loop
+add-from c = search needs
+
+-- src/reading.rt:52:5
+loop-less : tie.Need-loop-less Inv-loop μ-loop
+loop-less c = search needs
+
+-- src/reading.rt:52:5
+loop-again : tie.Need-loop-again Inv-loop μ-loop
+loop-again c = search needs
+
+-- src/reading.rt:50:1
+returns : tie.Need-returns Inv-loop μ-loop
+returns c = search needs
+
+pub each-spec : {M : Type 1} → statement M
+each-spec =
+    tie.close
+    (tie.spec
+    Inv-loop
+    μ-loop
+    loop-holds
+    bar-requires
+    part-requires
+    joined-requires
+    add-from
+    loop-less
+    loop-again
+    returns)
