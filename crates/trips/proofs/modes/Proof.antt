@@ -1,8 +1,8 @@
--- `corners::modes` is safe and ends.
+-- `trips::modes` is safe and ends.
 use borrow.Author.Needs.{needs}
 use Prim.Native.Nat.{_-_, _≤_}
-use Rattle.corners.proofs.modes.Statement.{statement}
-use Rattle.corners.proofs.modes.Tie as tie
+use Rattle.trips.proofs.modes.Statement.{statement}
+use Rattle.trips.proofs.modes.Tie as tie
 
 abbrev Inv-loop : tie.InvT-loop
 Inv-loop image font mode₀ mode = mode ≤ 8

@@ -1,9 +1,9 @@
--- `corners::alike_from` is safe and ends.
+-- `trips::alike_from` is safe and ends.
 use borrow.Author.Needs.{needs}
 use Prim.Native.Nat.{_-_, _≤_}
 use lib.ListN.{length}
-use Rattle.corners.proofs.alike_from.Statement.{statement}
-use Rattle.corners.proofs.alike_from.Tie as tie
+use Rattle.trips.proofs.alike_from.Statement.{statement}
+use Rattle.trips.proofs.alike_from.Tie as tie
 
 abbrev Inv-loop : tie.InvT-loop
 Inv-loop s t from₀ i₀ from i = i ≤ length s

@@ -1,8 +1,8 @@
--- `corners::trips` is safe and ends.
+-- `trips::trips` is safe and ends.
 use borrow.Author.Needs.{needs}
 use Prim.Native.Nat.{_-_, _≤_}
-use Rattle.corners.proofs.trips.Statement.{statement}
-use Rattle.corners.proofs.trips.Tie as tie
+use Rattle.trips.proofs.trips.Statement.{statement}
+use Rattle.trips.proofs.trips.Tie as tie
 
 abbrev Inv-loop : tie.InvT-loop
 Inv-loop i₀ i = i ≤ 16
