@@ -1,0 +1,414 @@
+// Runs the figures of document 01 and corners of its modes through the code, on buffers, and prints a line for each.
+use answer::Answer;
+use counter::Counter;
+use settings::Look;
+use settings::Settings;
+ghost use Prim.Native.Nat.{_<_};
+
+// == Lines printed: a form with numbers in it.
+
+// Prints bytes as they are.
+fn say(words: &[u8]) {
+    io::write_all(1, words);
+}
+
+// The capital hex digit of a number.
+fn digit(n: u8) -> u8
+    requires { ⌜ n < 16 ⌝ }
+{
+    if n < 10 { 48 + n } else { 55 + n }
+}
+
+// Prints a byte as two hex digits.
+fn hex_byte(b: u8) {
+    say(&[digit(b / 16), digit(b % 16)]);
+}
+
+// Prints a number as its sign asks: `#` in decimal, `%` as two hex digits, else as four.
+fn number_as(sign: u8, n: usize) {
+    if sign == b'#' {
+        io::print_decimal(1, n as u64);
+        return;
+    }
+    if sign == b'$' {
+        hex_byte((n / 256 % 256) as u8);
+    }
+    hex_byte((n % 256) as u8);
+}
+
+// The number at a place, 0 past the end.
+fn nth(numbers: &[usize], k: usize) -> usize {
+    if k < numbers.len() { numbers[k] } else { 0 }
+}
+
+// Prints a form, in which each `#`, `%` and `$` stands for the next of the numbers.
+fn form(words: &[u8], numbers: &[usize]) {
+    let mut k: usize = 0;
+    let mut i: usize = 0;
+    while i < words.len() {
+        let b = words[i];
+        if (b == b'#') | (b == b'%') | (b == b'$') {
+            number_as(b, nth(numbers, k));
+            k = std::num::wrapping_add_usize(k, 1);
+        } else {
+            say(&[b]);
+        }
+        i += 1;
+    }
+}
+
+// Prints a form with one number.
+fn one(words: &[u8], n: usize) {
+    form(words, &[n]);
+}
+
+// Prints the number of the figure that a line is, if it is one.
+fn figure_name(n: usize) {
+    if 0 < n {
+        one(b"P# ", n);
+    }
+}
+
+// Prints an answer's number and place.
+fn number_and_place(a: Answer) {
+    form(
+        b": number # place #",
+        &[answer::number(a) as usize, answer::place(a)],
+    );
+}
+
+// Prints an answer's number, place and value.
+fn told(a: Answer) {
+    number_and_place(a);
+    one(b" value #", answer::value(a));
+}
+
+// == Settings and buffers: made, filled, cut short, read and compared.
+
+// A look by its pins.
+fn look_of(pins: usize) -> Look {
+    Look {
+        pins: (pins % 256) as u8,
+    }
+}
+
+// Settings by their word and pins.
+fn settings_of(word: usize, pins: usize) -> Settings {
+    Settings {
+        word: (word % 65536) as u16,
+        look: look_of(pins),
+    }
+}
+
+// The byte at a place, 0 past the end.
+fn at(s: &[u8], i: usize) -> usize {
+    if i < s.len() { byte_number(s[i]) } else { 0 }
+}
+
+// A byte as a number.
+fn byte_number(b: u8) -> usize {
+    b as usize
+}
+
+// Puts one byte everywhere.
+fn fill(s: &mut [u8], b: u8) {
+    let mut i: usize = 0;
+    while i < s.len() {
+        s[i] = b;
+        i += 1;
+    }
+}
+
+// An image that tells its addresses: each byte is the low byte of its place divided by `per`.
+fn tell(s: &mut [u8], per: usize)
+    requires { ⌜ 0 < per ⌝ }
+{
+    let mut i: usize = 0;
+    while i < s.len() {
+        s[i] = (i / per % 256) as u8;
+        i += 1;
+    }
+}
+
+// Marks a buffer: a byte of its own at each of 256 places.
+fn mark(s: &mut [u8]) {
+    let mut b: u8 = 131;
+    let mut i: usize = 0;
+    while i < s.len() {
+        s[i] = b;
+        b = std::num::wrapping_add_u8(b, 5);
+        i += 1;
+    }
+}
+
+// == Control writes: figures P1 to P4, each bit set and cleared, and lists refused.
+
+// A word as a number.
+fn word_number(w: u16) -> usize {
+    w as usize
+}
+
+// Prints addresses.
+fn list(writes: &[u16]) {
+    let mut i: usize = 0;
+    while i < writes.len() {
+        one(b" $", word_number(writes[i]));
+        i += 1;
+    }
+}
+
+// The first n writes, or all where there are fewer.
+fn cut(writes: &[u16], n: usize) -> &[u16] {
+    if n < writes.len() {
+        return &writes[..n];
+    }
+    writes
+}
+
+// Plays writes from a word, and prints the answer with its word.
+fn play_list(figure: usize, from: u16, writes: &[u16]) {
+    figure_name(figure);
+    one(b"play from $ writes", from as usize);
+    list(writes);
+    let a = control::play(from, writes);
+    number_and_place(a);
+    one(b" word $\n", answer::value(a));
+}
+
+// Plays the first `count` of five writes.
+fn play(figure: usize, from: u16, count: usize, a: u16, b: u16, c: u16, d: u16, e: u16) {
+    let writes = [a, b, c, d, e];
+    play_list(figure, from, cut(&writes, count));
+}
+
+// Each address of the control word alone: an odd one from 0000, an even one from FFFF.
+fn bits() {
+    let mut i: u16 = 0;
+    while i < 16 {
+        play(0, 0x0000, 1, 0xFFC1 + 2 * i, 0, 0, 0, 0);
+        play(0, 0xFFFF, 1, 0xFFC0 + 2 * i, 0, 0, 0, 0);
+        i += 1;
+    }
+}
+
+// The figures, each bit, and corners: no writes, both neighbours of the range, the first of two elsewhere, a bit again.
+fn writes() {
+    play(1, 0x0000, 3, 0xFFC1, 0xFFC9, 0xFFD6, 0, 0);
+    play(2, 0x0000, 1, 0xFFDF, 0, 0, 0, 0);
+    play(3, 0xFFFF, 1, 0xFFC0, 0, 0, 0, 0);
+    play(4, 0x0000, 2, 0xFFC1, 0xFFBF, 0, 0, 0);
+    bits();
+    play(0, 0x1234, 0, 0, 0, 0, 0, 0);
+    play(0, 0x1234, 1, 0xFFBF, 0, 0, 0, 0);
+    play(0, 0x1234, 1, 0xFFE0, 0, 0, 0, 0);
+    play(0, 0x1234, 5, 0xFFC1, 0xFFDF, 0x0000, 0xFFC3, 0xFFE0);
+    play(0, 0x0000, 3, 0xFFC1, 0xFFC0, 0xFFC1, 0, 0);
+}
+
+// == Fetched addresses: figures P5 to P9, by the counter and by fetching.
+
+// The counter after some bytes.
+fn bytes_on(settings: Settings, from: Counter, bytes: usize) -> Counter {
+    let mut counter = from;
+    let mut i: usize = 0;
+    while i < bytes {
+        counter = counter.step(settings);
+        i += 1;
+    }
+    counter
+}
+
+// The counter before a line's first byte.
+fn line_start(settings: Settings, wide: usize, line: usize) -> Counter {
+    let mut counter = counter::first(settings);
+    let mut n: usize = 0;
+    while n < line {
+        let end = bytes_on(settings, counter, wide);
+        counter = end.line_end(settings);
+        n += 1;
+    }
+    counter
+}
+
+// Where a line's byte stands in the strip.
+fn place(wide: usize, line: usize, byte: usize) -> usize
+    requires { ⌜ (line < 192) × (byte < 32) ⌝ }
+{
+    if wide == 16 {
+        line * 16 + byte
+    } else {
+        line * 32 + byte
+    }
+}
+
+// The address of a line's byte as the counter tells it.
+fn counted(settings: Settings, line: usize, byte: usize) -> u16 {
+    let start = line_start(settings, settings::width(settings.look), line);
+    let counter = bytes_on(settings, start, byte);
+    counter.address
+}
+
+// The byte at a place of the strip that is fetched from an image.
+fn fetched(settings: Settings, image: &[u8], k: usize) -> usize {
+    let mut strip = [0u8; 6144];
+    strip::fetch(settings, image, &mut strip);
+    at(&strip, k)
+}
+
+// A figure: the address of a line's byte by the counter, and by what is fetched from the two images.
+fn address_figure(
+    n: usize,
+    word: usize,
+    pins: usize,
+    line: usize,
+    byte: usize,
+    low: &[u8],
+    high: &[u8],
+)
+    requires { ⌜ (line < 192) × (byte < 32) ⌝ }
+{
+    let settings = settings_of(word, pins);
+    let address = counted(settings, line, byte);
+    let k = place(settings::width(settings.look), line, byte);
+    figure_name(n);
+    form(b"word $ pins % line # byte #", &[word, pins, line, byte]);
+    form(
+        b": address $, fetched %%\n",
+        &[
+            address as usize,
+            fetched(settings, high, k),
+            fetched(settings, low, k),
+        ],
+    );
+}
+
+// The figures.
+fn addresses(low: &[u8], high: &[u8]) {
+    address_figure(5, 0x0011, 0x20, 2, 15, low, high);
+    address_figure(5, 0x0011, 0x20, 3, 0, low, high);
+    address_figure(5, 0x0011, 0x20, 191, 15, low, high);
+    address_figure(6, 0x0000, 0x00, 12, 0, low, high);
+    address_figure(6, 0x0000, 0x00, 191, 31, low, high);
+    address_figure(7, 0x03FE, 0x2E, 15, 31, low, high);
+    address_figure(7, 0x03FE, 0x2E, 16, 0, low, high);
+    address_figure(8, 0x0000, 0x20, 100, 0, low, high);
+    address_figure(9, 0x0001, 0x00, 0, 16, low, high);
+    address_figure(9, 0x0001, 0x00, 1, 16, low, high);
+}
+
+// == Dots: figures P10 to P12, the text figures, and corners of the modes.
+
+// Prints some pixels.
+fn pixels(frame: &[u8], from: usize, count: usize)
+    requires { ⌜ (from < 65536) × (count < 256) ⌝ }
+{
+    let mut i: usize = 0;
+    while i < count {
+        one(b" #", at(frame, from + i));
+        i += 1;
+    }
+}
+
+// Prints the dots of a line's first byte.
+fn first_dots(look: Look, frame: &[u8], line: usize)
+    requires { ⌜ line < 192 ⌝ }
+{
+    if settings::width(look) == 16 {
+        pixels(frame, line * 256, 16);
+    } else {
+        pixels(frame, line * 256, 8);
+    }
+    one(b"\n", 0);
+}
+
+// Draws a strip that has one byte throughout, and prints the answer and a line's first dots.
+fn drawn(look: Look, byte: u8, line: usize, font: &[u8])
+    requires { ⌜ line < 192 ⌝ }
+{
+    let mut strip = [0u8; 6144];
+    let mut frame = [0u8; 49152];
+    fill(&mut strip, byte);
+    let a = frame::draw(look, font, &strip, &mut frame);
+    told(a);
+    one(b", dots", 0);
+    first_dots(look, &frame, line);
+}
+
+// A figure by its number, or 0.
+fn dots_of(n: usize, pins: usize, byte: usize, line: usize, font: &[u8])
+    requires { ⌜ line < 192 ⌝ }
+{
+    figure_name(n);
+    form(b"pins % byte % line #", &[pins, byte, line]);
+    drawn(look_of(pins), (byte % 256) as u8, line, font);
+}
+
+// Letters: inverted by DD6, exchanged by GM1, the two colours, other rows.
+// Then patterns: all six bits with GM0 = 0; with GM0 = 1 and DD6 = 1 five bits from 64 on.
+fn letters(font: &[u8]) {
+    dots_of(0, 0x00, 0x41, 0, font);
+    dots_of(0, 0x00, 0x01, 0, font);
+    dots_of(0, 0x01, 0x41, 0, font);
+    dots_of(0, 0x04, 0x41, 0, font);
+    dots_of(0, 0x00, 0x41, 12, font);
+    dots_of(0, 0x00, 0x41, 11, font);
+    dots_of(0, 0x02, 0x61, 0, font);
+    dots_of(0, 0x02, 0x41, 0, font);
+    dots_of(0, 0x02, 0x21, 0, font);
+    dots_of(0, 0x00, 0x21, 0, font);
+    dots_of(0, 0x06, 0x61, 0, font);
+}
+
+// Semigraphics 4: the unlit part is black in every colour, and GM does not matter.
+fn blocks(font: &[u8]) {
+    dots_of(12, 0x00, 0xB9, 5, font);
+    dots_of(12, 0x00, 0xB9, 6, font);
+    dots_of(0, 0x00, 0xB9, 11, font);
+    dots_of(0, 0x00, 0xB9, 12, font);
+    dots_of(0, 0x04, 0xB9, 5, font);
+    dots_of(0, 0x0F, 0xB9, 5, font);
+    dots_of(0, 0x00, 0x80, 0, font);
+    dots_of(0, 0x00, 0x90, 0, font);
+    dots_of(0, 0x01, 0xFF, 0, font);
+}
+
+// Each of sixteen looks: every mode, or every text look, with either CSS; their borders are the values.
+fn looks(from: usize, byte: usize, font: &[u8])
+    requires { ⌜ from < 64 ⌝ }
+{
+    let mut i: usize = 0;
+    while i < 16 {
+        dots_of(0, from + i, byte, 191, font);
+        i += 1;
+    }
+}
+
+// All of them.
+fn dots(font: &[u8]) {
+    dots_of(10, 0x20, 0x1B, 0, font);
+    dots_of(11, 0x2F, 0xA5, 0, font);
+    blocks(font);
+    letters(font);
+    looks(0x20, 0x1B, font);
+    looks(0x00, 0x41, font);
+}
+
+// The parts in the document's order.
+fn run(low: &[u8], high: &[u8], font: &[u8]) {
+    writes();
+    addresses(low, high);
+    dots(font);
+}
+
+// Two images that tell the low and the high bytes of their addresses, and a font with rows of its own for patterns 1 and 65.
+fn main() {
+    let mut low = [0u8; 65536];
+    let mut high = [0u8; 65536];
+    let mut font = [0u8; 1152];
+    tell(&mut low, 1);
+    tell(&mut high, 256);
+    mark(&mut font);
+    font[12] = 0x18;
+    font[780] = 0xC3;
+    run(&low, &high, &font);
+}

@@ -1,0 +1,240 @@
+// Holds both at once against fetching and drawing, and reading back against drawing, and prints a line for each.
+use answer::Answer;
+use settings::Look;
+use settings::Settings;
+ghost use Prim.Native.Nat.{_<_};
+
+// == Lines printed: a form with numbers in it.
+
+// Prints bytes as they are.
+fn say(words: &[u8]) {
+    io::write_all(1, words);
+}
+
+// The capital hex digit of a number.
+fn digit(n: u8) -> u8
+    requires { ⌜ n < 16 ⌝ }
+{
+    if n < 10 { 48 + n } else { 55 + n }
+}
+
+// Prints a byte as two hex digits.
+fn hex_byte(b: u8) {
+    say(&[digit(b / 16), digit(b % 16)]);
+}
+
+// Prints a number as its sign asks: `#` in decimal, `%` as two hex digits, else as four.
+fn number_as(sign: u8, n: usize) {
+    if sign == b'#' {
+        io::print_decimal(1, n as u64);
+        return;
+    }
+    if sign == b'$' {
+        hex_byte((n / 256 % 256) as u8);
+    }
+    hex_byte((n % 256) as u8);
+}
+
+// The number at a place, 0 past the end.
+fn nth(numbers: &[usize], k: usize) -> usize {
+    if k < numbers.len() { numbers[k] } else { 0 }
+}
+
+// Prints a form, in which each `#`, `%` and `$` stands for the next of the numbers.
+fn form(words: &[u8], numbers: &[usize]) {
+    let mut k: usize = 0;
+    let mut i: usize = 0;
+    while i < words.len() {
+        let b = words[i];
+        if (b == b'#') | (b == b'%') | (b == b'$') {
+            number_as(b, nth(numbers, k));
+            k = std::num::wrapping_add_usize(k, 1);
+        } else {
+            say(&[b]);
+        }
+        i += 1;
+    }
+}
+
+// Prints a form with one number.
+fn one(words: &[u8], n: usize) {
+    form(words, &[n]);
+}
+
+// Prints an answer's number and place.
+fn number_and_place(a: Answer) {
+    form(
+        b": number # place #",
+        &[answer::number(a) as usize, answer::place(a)],
+    );
+}
+
+// Prints an answer's number, place and value.
+fn told(a: Answer) {
+    number_and_place(a);
+    one(b" value #", answer::value(a));
+}
+
+// == Settings and buffers: made, filled, cut short, read and compared.
+
+// A look by its pins.
+fn look_of(pins: usize) -> Look {
+    Look {
+        pins: (pins % 256) as u8,
+    }
+}
+
+// Settings by their word and pins.
+fn settings_of(word: usize, pins: usize) -> Settings {
+    Settings {
+        word: (word % 65536) as u16,
+        look: look_of(pins),
+    }
+}
+
+// The byte at a place, 0 past the end.
+fn at(s: &[u8], i: usize) -> usize {
+    if i < s.len() { byte_number(s[i]) } else { 0 }
+}
+
+// A byte as a number.
+fn byte_number(b: u8) -> usize {
+    b as usize
+}
+
+// The first n bytes, or all where there are fewer.
+fn cut(s: &[u8], n: usize) -> &[u8] {
+    if n < s.len() {
+        return &s[..n];
+    }
+    s
+}
+
+// An image that tells its addresses: each byte is the low byte of its place divided by `per`.
+fn tell(s: &mut [u8], per: usize)
+    requires { ⌜ 0 < per ⌝ }
+{
+    let mut i: usize = 0;
+    while i < s.len() {
+        s[i] = (i / per % 256) as u8;
+        i += 1;
+    }
+}
+
+// Marks a buffer: a byte of its own at each of 256 places.
+fn mark(s: &mut [u8]) {
+    let mut b: u8 = 131;
+    let mut i: usize = 0;
+    while i < s.len() {
+        s[i] = b;
+        b = std::num::wrapping_add_u8(b, 5);
+        i += 1;
+    }
+}
+
+// The place from which on s is as t: 0 where they are alike.
+fn alike_from(s: &[u8], t: &[u8]) -> usize {
+    let mut from: usize = 0;
+    let mut i: usize = 0;
+    while i < s.len() {
+        if !(at(s, i) == at(t, i)) {
+            from = i + 1;
+        }
+        i += 1;
+    }
+    from
+}
+
+// == Operations held against each other: both at once against fetching and drawing, reading back against drawing.
+
+// Prints from where on two strips and two frames are alike.
+fn told_alike(strip: &[u8], fetched: &[u8], frame: &[u8], drawn: &[u8]) {
+    one(b", strip as fetched from #", alike_from(strip, fetched));
+    one(b", frame as drawn from #\n", alike_from(frame, drawn));
+}
+
+// Fetches and draws, and prints from where on strip and frame are like those.
+fn again(settings: Settings, image: &[u8], font: &[u8], strip: &[u8], frame: &[u8]) {
+    let mut fetched = [0u8; 6144];
+    let mut drawn = [0u8; 49152];
+    strip::fetch(settings, image, &mut fetched);
+    frame::draw(settings.look, font, &fetched, &mut drawn);
+    told_alike(strip, &fetched, frame, &drawn);
+}
+
+// Prints the settings of both at once, and the answer.
+fn told_show(word: usize, pins: usize, a: Answer) {
+    form(b"show word $ pins %", &[word, pins]);
+    told(a);
+}
+
+// Shows an image, and holds it against fetching and drawing it.
+fn compared(word: usize, pins: usize, image: &[u8], font: &[u8]) {
+    let settings = settings_of(word, pins);
+    let mut strip = [0u8; 6144];
+    let mut frame = [0u8; 49152];
+    let a = screen::show(settings, image, font, &mut strip, &mut frame);
+    told_show(word, pins, a);
+    again(settings, image, font, &strip, &frame);
+}
+
+// Every SAM mode, in lines of 16 and of 32 bytes.
+fn modes(image: &[u8], font: &[u8]) {
+    let mut mode: usize = 0;
+    while mode < 8 {
+        compared(mode, 0x20, image, font);
+        compared(mode, 0x00, image, font);
+        mode += 1;
+    }
+}
+
+// Prints the answer of a frame read back, and from where on the strip is what is read.
+fn told_trip(pins: usize, a: Answer, strip: &[u8], read: &[u8]) {
+    one(b"trip pins %", pins);
+    told(a);
+    one(
+        b", strip as read from #\n",
+        alike_from(cut(strip, answer::value(a)), read),
+    );
+}
+
+// Reads a frame back, and holds what is read against a strip.
+fn read_again(pins: usize, strip: &[u8], frame: &[u8]) {
+    let mut read = [0u8; 6144];
+    let a = back::read_back(look_of(pins), frame, &mut read);
+    told_trip(pins, a, strip, &read);
+}
+
+// Draws a strip of varied bytes, and reads the frame back.
+fn trip(pins: usize) {
+    let mut strip = [0u8; 6144];
+    let mut frame = [0u8; 49152];
+    mark(&mut strip);
+    frame::draw(look_of(pins), &[], &strip, &mut frame);
+    read_again(pins, &strip, &frame);
+}
+
+// Every graphics mode with either CSS.
+fn trips() {
+    let mut i: usize = 0;
+    while i < 16 {
+        trip(32 + i);
+        i += 1;
+    }
+}
+
+// All of them; a window that comes round at FFFF among them.
+fn compare(image: &[u8], font: &[u8]) {
+    modes(image, font);
+    compared(0x03FE, 0x2E, image, font);
+    trips();
+}
+
+// An image that tells the low bytes of its addresses, and a font of varied bytes.
+fn main() {
+    let mut image = [0u8; 65536];
+    let mut font = [0u8; 1152];
+    tell(&mut image, 1);
+    mark(&mut font);
+    compare(&image, &font);
+}
