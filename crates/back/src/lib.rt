@@ -171,6 +171,7 @@ fn first_stray(look: Look, strip: &[u8], frame: &[u8]) -> usize
     ensures { λ r. ⌜ r ≡ firstStray look (now (frame .entry)) ⌝ }
 {
     let mut picture = [0u8; 49152];
+    // in graphics no font is read: the strip stands in its place
     frame::draw(look, strip, strip, &mut picture);
     if differ(frame, &picture) {
         return search(look, frame);
