@@ -22,9 +22,17 @@ use Rattle.pixel.proofs.Owners.{owner-below, depends}
 use Rattle.pixel.proofs.Shows.{shows}
 use Rattle.frame.specs.Draw.{frameAfter}
 use Rattle.screen.specs.Show.{showTold, shown}
-use Rattle.claims.proofs.Calls.{Lent, Shows}
+use Rattle.claims.proofs.Calls.{Lent, Fetches, Shows}
 use Rattle.claims.proofs.Demand1.{show-demand}
 use Rattle.claims.proofs.Demand2.{Done, shown-byte, shown-pixel}
+
+-- Fetching alone: images of one length that agree at the fetched places give the same answer and strip.
+pub fetch-window : (s : Settings) (κs κs′ : Lfts 2) (image image′ strip strip′ : Lent) (z z′ : Answer) (out out′ : List ℕ)
+    → length (now image) ≡ length (now image′) → now strip ≡ now strip′
+    → ((a : ℕ) → Fetched s (length (now image)) a → getD (now image) a 0 ≡ getD (now image′) a 0)
+    → Fetches κs s image strip z out → Fetches κs′ s image′ strip′ z′ out′ → (z ≡ z′) × (out ≡ out′)
+fetch-window s κs κs′ image image′ strip strip′ z z′ out out′ long same agree p q =
+    (one-answer (p .0) (q .0 ∙ rw (long, same)), p .1 ∙ rw (same-strip s (now image) (now image′) (now strip) long agree, same) (sym (q .1)))
 
 -- what a lent slice of bytes holds
 abbrev pub Bytes : List ℕ → Type 0

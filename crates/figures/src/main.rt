@@ -1,4 +1,4 @@
-// Runs the figures of document 01 and corners of its modes through the code, on buffers, and prints a line for each.
+// Runs the figures of document 01 on control writes and fetched addresses through the code, and prints a line for each.
 use answer::Answer;
 use counter::Counter;
 use settings::Look;
@@ -77,12 +77,6 @@ fn number_and_place(a: Answer) {
     );
 }
 
-// Prints an answer's number, place and value.
-fn told(a: Answer) {
-    number_and_place(a);
-    one(b" value #", answer::value(a));
-}
-
 // == Settings and buffers: made, filled, cut short, read and compared.
 
 // A look by its pins.
@@ -110,15 +104,6 @@ fn byte_number(b: u8) -> usize {
     b as usize
 }
 
-// Puts one byte everywhere.
-fn fill(s: &mut [u8], b: u8) {
-    let mut i: usize = 0;
-    while i < s.len() {
-        s[i] = b;
-        i += 1;
-    }
-}
-
 // An image that tells its addresses: each byte is the low byte of its place divided by `per`.
 fn tell(s: &mut [u8], per: usize)
     requires { ⌜ 0 < per ⌝ }
@@ -126,17 +111,6 @@ fn tell(s: &mut [u8], per: usize)
     let mut i: usize = 0;
     while i < s.len() {
         s[i] = (i / per % 256) as u8;
-        i += 1;
-    }
-}
-
-// Marks a buffer: a byte of its own at each of 256 places.
-fn mark(s: &mut [u8]) {
-    let mut b: u8 = 131;
-    let mut i: usize = 0;
-    while i < s.len() {
-        s[i] = b;
-        b = std::num::wrapping_add_u8(b, 5);
         i += 1;
     }
 }
@@ -296,119 +270,12 @@ fn addresses(low: &[u8], high: &[u8]) {
     address_figure(9, 0x0001, 0x00, 1, 16, low, high);
 }
 
-// == Dots: figures P10 to P12, the text figures, and corners of the modes.
-
-// Prints some pixels.
-fn pixels(frame: &[u8], from: usize, count: usize)
-    requires { ⌜ (from < 65536) × (count < 256) ⌝ }
-{
-    let mut i: usize = 0;
-    while i < count {
-        one(b" #", at(frame, from + i));
-        i += 1;
-    }
-}
-
-// Prints the dots of a line's first byte.
-fn first_dots(look: Look, frame: &[u8], line: usize)
-    requires { ⌜ line < 192 ⌝ }
-{
-    if settings::width(look) == 16 {
-        pixels(frame, line * 256, 16);
-    } else {
-        pixels(frame, line * 256, 8);
-    }
-    one(b"\n", 0);
-}
-
-// Draws a strip that has one byte throughout, and prints the answer and a line's first dots.
-fn drawn(look: Look, byte: u8, line: usize, font: &[u8])
-    requires { ⌜ line < 192 ⌝ }
-{
-    let mut strip = [0u8; 6144];
-    let mut frame = [0u8; 49152];
-    fill(&mut strip, byte);
-    let a = frame::draw(look, font, &strip, &mut frame);
-    told(a);
-    one(b", dots", 0);
-    first_dots(look, &frame, line);
-}
-
-// A figure by its number, or 0.
-fn dots_of(n: usize, pins: usize, byte: usize, line: usize, font: &[u8])
-    requires { ⌜ line < 192 ⌝ }
-{
-    figure_name(n);
-    form(b"pins % byte % line #", &[pins, byte, line]);
-    drawn(look_of(pins), (byte % 256) as u8, line, font);
-}
-
-// Letters: inverted by DD6, exchanged by GM1, the two colours, other rows.
-// Then patterns: all six bits with GM0 = 0; with GM0 = 1 and DD6 = 1 five bits from 64 on.
-fn letters(font: &[u8]) {
-    dots_of(0, 0x00, 0x41, 0, font);
-    dots_of(0, 0x00, 0x01, 0, font);
-    dots_of(0, 0x01, 0x41, 0, font);
-    dots_of(0, 0x04, 0x41, 0, font);
-    dots_of(0, 0x00, 0x41, 12, font);
-    dots_of(0, 0x00, 0x41, 11, font);
-    dots_of(0, 0x02, 0x61, 0, font);
-    dots_of(0, 0x02, 0x41, 0, font);
-    dots_of(0, 0x02, 0x21, 0, font);
-    dots_of(0, 0x00, 0x21, 0, font);
-    dots_of(0, 0x06, 0x61, 0, font);
-}
-
-// Semigraphics 4: the unlit part is black in every colour, and GM does not matter.
-fn blocks(font: &[u8]) {
-    dots_of(12, 0x00, 0xB9, 5, font);
-    dots_of(12, 0x00, 0xB9, 6, font);
-    dots_of(0, 0x00, 0xB9, 11, font);
-    dots_of(0, 0x00, 0xB9, 12, font);
-    dots_of(0, 0x04, 0xB9, 5, font);
-    dots_of(0, 0x0F, 0xB9, 5, font);
-    dots_of(0, 0x00, 0x80, 0, font);
-    dots_of(0, 0x00, 0x90, 0, font);
-    dots_of(0, 0x01, 0xFF, 0, font);
-}
-
-// Each of sixteen looks: every mode, or every text look, with either CSS; their borders are the values.
-fn looks(from: usize, byte: usize, font: &[u8])
-    requires { ⌜ from < 64 ⌝ }
-{
-    let mut i: usize = 0;
-    while i < 16 {
-        dots_of(0, from + i, byte, 191, font);
-        i += 1;
-    }
-}
-
-// All of them.
-fn dots(font: &[u8]) {
-    dots_of(10, 0x20, 0x1B, 0, font);
-    dots_of(11, 0x2F, 0xA5, 0, font);
-    blocks(font);
-    letters(font);
-    looks(0x20, 0x1B, font);
-    looks(0x00, 0x41, font);
-}
-
-// The parts in the document's order.
-fn run(low: &[u8], high: &[u8], font: &[u8]) {
-    writes();
-    addresses(low, high);
-    dots(font);
-}
-
-// Two images that tell the low and the high bytes of their addresses, and a font with rows of its own for patterns 1 and 65.
+// Two images that tell the low and the high bytes of their addresses.
 fn main() {
     let mut low = [0u8; 65536];
     let mut high = [0u8; 65536];
-    let mut font = [0u8; 1152];
     tell(&mut low, 1);
     tell(&mut high, 256);
-    mark(&mut font);
-    font[12] = 0x18;
-    font[780] = 0xC3;
-    run(&low, &high, &font);
+    writes();
+    addresses(&low, &high);
 }

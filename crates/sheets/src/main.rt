@@ -1,4 +1,4 @@
-// Runs the corners of document 01's sheet and its report through the code, and prints a line for each sheet and each report.
+// Runs the corners of document 01's sheet through the code, and prints a line for each.
 use answer::Answer;
 ghost use Prim.Native.Nat.{_<_, _≤_};
 ghost use lib.ListN.{length};
@@ -214,43 +214,40 @@ fn each_sheet(head: &[u8], rests: &[u8]) {
     }
 }
 
-// A sheet with annotations: `count` times a line whose value has `long` bytes.
-fn lines(count: usize, long: usize) {
-    let mut line = [0u8; 256];
-    let mut sheet = [0u8; 1024];
-    let a = append(&mut line, 0, b"a=", 1);
-    let b = append(&mut line, a, b"x", long);
-    let c = append(&mut line, b, b"\n", 1);
-    let n = append(&mut sheet, 0, b"deed=K\npins=20\nwrites=0\n", 1);
-    let m = append(&mut sheet, n, cut(&line, c), count);
-    form(b"# lines with values of #", &[count, long]);
-    read(cut(&sheet, m));
-}
-
-// The head of the longest sheet: a deed of 16 and 64 writes. Hands back how many bytes it has.
-fn long_head(sheet: &mut [u8]) -> usize {
-    let a = append(sheet, 0, b"deed=----------------\npins=FF\nwrites=64\n", 1);
-    append(sheet, a, b"at=FFC1\n", 64)
-}
-
-// The longest line, a key of 16 and a value of 120. Hands back how many bytes it has.
-fn long_line(line: &mut [u8]) -> usize {
-    let a = append(line, 0, b"k", 16);
+// Puts a line together: `keys` times a byte, an equals sign, `values` times a byte. Hands back how many bytes it has.
+fn line_of(line: &mut [u8], key: &[u8], keys: usize, value: &[u8], values: usize) -> usize {
+    let a = append(line, 0, key, keys);
     let b = append(line, a, b"=", 1);
-    let c = append(line, b, b"v", 120);
+    let c = append(line, b, value, values);
     append(line, c, b"\n", 1)
 }
 
-// The longest sheet and some bytes more.
-fn longest(more: usize) {
+// Puts a sheet together: a head, writes, `count` times a line, and some bytes more. Hands back how many bytes it has.
+fn built(
+    sheet: &mut [u8],
+    head: &[u8],
+    writes: usize,
+    line: &[u8],
+    count: usize,
+    more: usize,
+) -> usize {
+    let a = append(sheet, 0, head, 1);
+    let b = append(sheet, a, b"at=FFC1\n", writes);
+    let c = append(sheet, b, line, count);
+    append(sheet, c, b"a", more)
+}
+
+// A sheet that goes on from a head by writes, by `count` lines with keys and values as long as told, and by some bytes more.
+fn long(head: &[u8], writes: usize, keys: usize, values: usize, count: usize, more: usize) {
     let mut line = [0u8; 256];
     let mut sheet = [0u8; 28160];
-    let c = long_line(&mut line);
-    let n = long_head(&mut sheet);
-    let m = append(&mut sheet, n, cut(&line, c), 200);
-    let all = append(&mut sheet, m, b"a", more);
-    form(b"longest and # more, # bytes", &[more, all]);
-    read(cut(&sheet, all));
+    let c = line_of(&mut line, b"k", keys, b"v", values);
+    let n = built(&mut sheet, head, writes, cut(&line, c), count, more);
+    form(
+        b"writes #, # lines with keys of # and values of #, # more, # bytes",
+        &[writes, count, keys, values, more, n],
+    );
+    read(cut(&sheet, n));
 }
 
 // The fixed lines.
@@ -285,58 +282,32 @@ fn tails() {
     corner(b"deed=----------------\npins=FF\nwrites=0\n");
 }
 
-// All of them.
-fn sheets_read() {
-    heads();
-    tails();
-    lines(1, 121);
-    lines(1, 120);
-    lines(201, 0);
-    lines(200, 0);
-    longest(0);
-    longest(1);
-}
-
-// == Reports: a sheet, and its report as it is printed.
-
-// Prints a sheet and its report.
-fn report(sheet: &[u8]) {
-    say(b"report of ");
-    quoted(sheet);
-    say(b"\n");
-    let text = wording::report(sheet);
-    let bytes = text.bytes;
-    say(cut(&bytes, text.len));
-}
-
-// Each of several sheets, which bars part.
-fn each_report(sheets: &[u8]) {
-    let mut from: usize = 0;
-    while from < sheets.len() {
-        let end = bar(sheets, from);
-        report(part(sheets, from, end));
-        from = end + 1;
-    }
-}
-
-// The example, each other status in the report's order, and a sheet broken in each kind of line.
-fn reports() {
-    each_report(
-        b"deed=K-104\npins=20\nwrites=3\nat=FFC1\nat=FFC9\nat=FFD6\nplan-note=north corner\ncolour=\n|deed=K-104\npins=10\nwrites=3\nat=FFC1\nat=FFC9\nat=FFD6\nplan-note=north corner\ncolour=\n",
+// A value one byte too long and the longest, a line too many and the most, the longest sheet and a byte more.
+fn longs() {
+    long(b"deed=K\npins=20\nwrites=0\n", 0, 1, 121, 1, 0);
+    long(b"deed=K\npins=20\nwrites=0\n", 0, 1, 120, 1, 0);
+    long(b"deed=K\npins=20\nwrites=0\n", 0, 1, 0, 201, 0);
+    long(b"deed=K\npins=20\nwrites=0\n", 0, 1, 0, 200, 0);
+    long(
+        b"deed=----------------\npins=FF\nwrites=64\n",
+        64,
+        16,
+        120,
+        200,
+        0,
     );
-    each_report(
-        b"deed=K\npins=40\nwrites=0\n|deed=K\npins=20\nwrites=1\nat=FFD9\na=b\n|deed=K\npins=20\nwrites=2\nat=FFD9\nat=FFD8\n|deed=K\npins=20\nwrites=2\nat=FFC1\nat=FFBF\n",
-    );
-    each_report(
-        b"deed=K\npins=FF\nwrites=1\nat=0000\n|deed=K\npins=FF\nwrites=1\nat=FFD9\n|deed=K\npins=10\nwrites=1\nat=FFD9\n|deed=K\npins=30\nwrites=1\nat=FFD3\n|deed=K\npins=06\nwrites=0\n|deed=K\npins=2F\nwrites=0\n",
-    );
-    report(b"");
-    each_report(
-        b"deed=k\n|deed=K\npins=2a\n|deed=K\npins=20\nwrites=65\n|deed=K\npins=20\nwrites=1\nat=0\n|deed=K\npins=20\nwrites=0\nA=\n",
+    long(
+        b"deed=----------------\npins=FF\nwrites=64\n",
+        64,
+        16,
+        120,
+        200,
+        1,
     );
 }
 
 fn main() {
-    sheets_read();
-    reports();
+    heads();
+    tails();
+    longs();
 }

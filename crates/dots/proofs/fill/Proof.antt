@@ -1,10 +1,10 @@
--- `corners::fill` is safe and ends.
+-- `dots::fill` is safe and ends.
 use borrow.Author.Needs.{needs}
 use mathlib.Core.Path.{_≡_, refl, _∙_}
 use Prim.Native.Nat.{_-_, _≤_}
 use lib.ListN.{length, length-set}
-use Rattle.corners.proofs.fill.Statement.{statement}
-use Rattle.corners.proofs.fill.Tie as tie
+use Rattle.dots.proofs.fill.Statement.{statement}
+use Rattle.dots.proofs.fill.Tie as tie
 
 abbrev Inv-loop : tie.InvT-loop
 Inv-loop s₀ b i₀ s i = length s ≡ length s₀

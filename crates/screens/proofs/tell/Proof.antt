@@ -1,25 +1,28 @@
--- `figures::mark` is safe and ends.
+-- `screens::tell` is safe and ends.
 use borrow.Author.Needs.{needs}
 use mathlib.Core.Path.{_≡_, refl, _∙_}
 use Prim.Native.Nat.{_-_, _≤_}
 use lib.ListN.{length, length-set}
-use Rattle.figures.proofs.mark.Statement.{statement}
-use Rattle.figures.proofs.mark.Tie as tie
+use Rattle.screens.proofs.tell.Statement.{statement}
+use Rattle.screens.proofs.tell.Tie as tie
 
 abbrev Inv-loop : tie.InvT-loop
-Inv-loop s₀ b₀ i₀ s b i = length s ≡ length s₀
+Inv-loop s₀ per i₀ s i = length s ≡ length s₀
 
 abbrev μ-loop : tie.MeasureT-loop
-μ-loop s₀ b₀ i₀ s b i = length s₀ - i
+μ-loop s₀ per i₀ s i = length s₀ - i
 
 loop-holds : tie.Need-loop-holds Inv-loop μ-loop
 loop-holds c = search needs
 
+div-s : tie.Need-div-s Inv-loop μ-loop
+div-s c = search needs
+
+cast-s : tie.Need-cast-s Inv-loop μ-loop
+cast-s c = search needs
+
 slice-write-s : tie.Need-slice-write-s Inv-loop μ-loop
 slice-write-s c = search needs
-
-wrapping-add-u8-requires : tie.Need-wrapping-add-u8-requires Inv-loop μ-loop
-wrapping-add-u8-requires c κs = search needs
 
 add-i : tie.Need-add-i Inv-loop μ-loop
 add-i c = search needs
@@ -36,15 +39,16 @@ same-length c = search needs
 returns : tie.Need-returns Inv-loop μ-loop
 returns c = search needs
 
-pub mark-spec : {M : Type 1} → statement M
-mark-spec =
+pub tell-spec : {M : Type 1} → statement M
+tell-spec =
     tie.close
     (tie.spec
     Inv-loop
     μ-loop
     loop-holds
+    div-s
+    cast-s
     slice-write-s
-    wrapping-add-u8-requires
     add-i
     loop-less
     loop-again

@@ -1,10 +1,10 @@
--- `sheets::each` is safe and ends.
+-- `reports::each` is safe and ends.
 use borrow.Author.Needs.{needs}
 use mathlib.Core.Path.{_≡_}
 use Prim.Native.Nat.{_+_, _-_, _≤_}
 use lib.ListN.{length}
-use Rattle.sheets.proofs.each_report.Statement.{statement}
-use Rattle.sheets.proofs.each_report.Tie as tie
+use Rattle.reports.proofs.each_report.Statement.{statement}
+use Rattle.reports.proofs.each_report.Tie as tie
 
 abbrev Inv-loop : tie.InvT-loop
 Inv-loop sheets from₀ from = from ≤ length sheets + 1

@@ -1,9 +1,9 @@
--- `figures::pixels` is safe and ends.
+-- `dots::pixels` is safe and ends.
 use borrow.Author.Needs.{needs}
 use Prim.Native.Nat.{_-_, _≤_}
 use lib.ListN.{length}
-use Rattle.figures.proofs.pixels.Statement.{statement}
-use Rattle.figures.proofs.pixels.Tie as tie
+use Rattle.dots.proofs.pixels.Statement.{statement}
+use Rattle.dots.proofs.pixels.Tie as tie
 
 abbrev Inv-loop : tie.InvT-loop
 Inv-loop frame from count i₀ t5 i = i ≤ count

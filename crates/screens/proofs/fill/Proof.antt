@@ -1,24 +1,22 @@
--- `figures::looks` is safe and ends.
+-- `screens::fill` is safe and ends.
 use borrow.Author.Needs.{needs}
+use mathlib.Core.Path.{_≡_, refl, _∙_}
 use Prim.Native.Nat.{_-_, _≤_}
-use lib.ListN.{length}
-use Rattle.figures.proofs.looks.Statement.{statement}
-use Rattle.figures.proofs.looks.Tie as tie
+use lib.ListN.{length, length-set}
+use Rattle.screens.proofs.fill.Statement.{statement}
+use Rattle.screens.proofs.fill.Tie as tie
 
 abbrev Inv-loop : tie.InvT-loop
-Inv-loop from byte font i₀ i = i ≤ 16
+Inv-loop s₀ b i₀ s i = length s ≡ length s₀
 
 abbrev μ-loop : tie.MeasureT-loop
-μ-loop from byte font i₀ i = 16 - i
+μ-loop s₀ b i₀ s i = length s₀ - i
 
 loop-holds : tie.Need-loop-holds Inv-loop μ-loop
 loop-holds c = search needs
 
-add-dots-of : tie.Need-add-dots-of Inv-loop μ-loop
-add-dots-of c = search needs
-
-dots-of-requires : tie.Need-dots-of-requires Inv-loop μ-loop
-dots-of-requires c κs = search needs
+slice-write-s : tie.Need-slice-write-s Inv-loop μ-loop
+slice-write-s c = search needs
 
 add-i : tie.Need-add-i Inv-loop μ-loop
 add-i c = search needs
@@ -29,19 +27,22 @@ loop-less c = search needs
 loop-again : tie.Need-loop-again Inv-loop μ-loop
 loop-again c = search needs
 
+same-length : tie.Need-same-length Inv-loop μ-loop
+same-length c = search needs
+
 returns : tie.Need-returns Inv-loop μ-loop
 returns c = search needs
 
-pub looks-spec : {M : Type 1} → statement M
-looks-spec =
+pub fill-spec : {M : Type 1} → statement M
+fill-spec =
     tie.close
     (tie.spec
     Inv-loop
     μ-loop
     loop-holds
-    add-dots-of
-    dots-of-requires
+    slice-write-s
     add-i
     loop-less
     loop-again
+    same-length
     returns)
