@@ -44,8 +44,8 @@ use Rattle.back.proofs.Backs.{back-accepted, told-passed, strip-done as back-do
 use Rattle.back.proofs.RoundTrip.{Bytes, Draws as DrawnBy, written-reads, drawn-read, no-strip}
 use Rattle.back.proofs.Trips.{drawn-is-read, read-as-drawn, read-is-drawn, drawn-as-read}
 use Rattle.text.specs.Code.{Longest}
-use Rattle.sheet.specs.Sheet.{nl, Fields, ValidSheet, front, render, sheets}
-use Rattle.sheet.specs.Given.{fieldsIn}
+use Rattle.grammar.specs.Sheet.{nl, Fields, ValidSheet, front, render, sheets}
+use Rattle.grammar.specs.Given.{fieldsIn}
 use Rattle.sheet.specs.declared.Sheet.{Sheet}
 use Rattle.sheet.proofs.Annotations.{Reads, Line, Tail, joined, line-some, lines-join, tail-ends, tail-holds, accepted-sheet, refused-sheet}
 use Rattle.wording.specs.declared.Text.{Text}

@@ -10,8 +10,10 @@ use Rattle.strip.proofs.Unique as strip
 use Rattle.frame.proofs.Unique as frame
 use Rattle.screen.proofs.Unique as screen
 use Rattle.back.proofs.Unique as back
+use Rattle.outline.proofs.Unique as outline
 use Rattle.sheet.proofs.Unique as sheet
 use Rattle.wording.proofs.Unique as wording
+use Rattle.printing.proofs.Unique as printing
 
 abbrev pub operations : List Operation
 operations =
@@ -41,11 +43,19 @@ operations =
     ∷ frame.draw-op
     ∷ screen.show-op
     ∷ back.read-back-op
+    ∷ outline.survey-op
+    ∷ outline.annotation-op
     ∷ sheet.read-op
     ∷ sheet.deed-op
     ∷ sheet.annotation-op
     ∷ sheet.tail-op
     ∷ wording.report-op
+    ∷ printing.say-op
+    ∷ printing.form-op
+    ∷ printing.one-op
+    ∷ printing.number-and-place-op
+    ∷ printing.told-op
+    ∷ printing.quoted-op
     ∷ []
 
 -- each of them takes every input and fixes its outcome
@@ -77,11 +87,19 @@ all-fix =
     & frame.draw-fixes
     & screen.show-fixes
     & back.read-back-fixes
+    & outline.survey-fixes
+    & outline.annotation-fixes
     & sheet.read-fixes
     & sheet.deed-fixes
     & sheet.annotation-fixes
     & sheet.tail-fixes
     & wording.report-fixes
+    & printing.say-fixes
+    & printing.form-fixes
+    & printing.one-fixes
+    & printing.number-and-place-fixes
+    & printing.told-fixes
+    & printing.quoted-fixes
     & none
 
 -- the functions that the list is of, by the names that the compiler has for them
@@ -112,10 +130,18 @@ pub named : map (λ o. o .key) operations
     ∷ "frame::draw"
     ∷ "screen::show"
     ∷ "back::read_back"
+    ∷ "outline::survey"
+    ∷ "outline::annotation"
     ∷ "sheet::read"
     ∷ "sheet::deed"
     ∷ "sheet::annotation"
     ∷ "sheet::tail"
     ∷ "wording::report"
+    ∷ "printing::say"
+    ∷ "printing::form"
+    ∷ "printing::one"
+    ∷ "printing::number_and_place"
+    ∷ "printing::told"
+    ∷ "printing::quoted"
     ∷ []
 named = refl

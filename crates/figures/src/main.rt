@@ -1,66 +1,12 @@
 // Runs the figures of document 01 on control writes and fetched addresses through the code, and prints a line for each.
 use answer::Answer;
 use counter::Counter;
+use printing::form;
+use printing::number_and_place;
+use printing::one;
 use settings::Look;
 use settings::Settings;
 ghost use Prim.Native.Nat.{_<_};
-
-// == Lines printed: a form with numbers in it.
-
-// Prints bytes as they are.
-fn say(words: &[u8]) {
-    io::write_all(1, words);
-}
-
-// The capital hex digit of a number.
-fn digit(n: u8) -> u8
-    requires { ⌜ n < 16 ⌝ }
-{
-    if n < 10 { 48 + n } else { 55 + n }
-}
-
-// Prints a byte as two hex digits.
-fn hex_byte(b: u8) {
-    say(&[digit(b / 16), digit(b % 16)]);
-}
-
-// Prints a number as its sign asks: `#` in decimal, `%` as two hex digits, else as four.
-fn number_as(sign: u8, n: usize) {
-    if sign == b'#' {
-        io::print_decimal(1, n as u64);
-        return;
-    }
-    if sign == b'$' {
-        hex_byte((n / 256 % 256) as u8);
-    }
-    hex_byte((n % 256) as u8);
-}
-
-// The number at a place, 0 past the end.
-fn nth(numbers: &[usize], k: usize) -> usize {
-    if k < numbers.len() { numbers[k] } else { 0 }
-}
-
-// Prints a form, in which each `#`, `%` and `$` stands for the next of the numbers.
-fn form(words: &[u8], numbers: &[usize]) {
-    let mut k: usize = 0;
-    let mut i: usize = 0;
-    while i < words.len() {
-        let b = words[i];
-        if (b == b'#') | (b == b'%') | (b == b'$') {
-            number_as(b, nth(numbers, k));
-            k = std::num::wrapping_add_usize(k, 1);
-        } else {
-            say(&[b]);
-        }
-        i += 1;
-    }
-}
-
-// Prints a form with one number.
-fn one(words: &[u8], n: usize) {
-    form(words, &[n]);
-}
 
 // Prints the number of the figure that a line is, if it is one.
 fn figure_name(n: usize) {
@@ -69,15 +15,7 @@ fn figure_name(n: usize) {
     }
 }
 
-// Prints an answer's number and place.
-fn number_and_place(a: Answer) {
-    form(
-        b": number # place #",
-        &[answer::number(a) as usize, answer::place(a)],
-    );
-}
-
-// == Settings and buffers: made, filled, cut short, read and compared.
+// == Settings and images: made, filled and read.
 
 // A look by its pins.
 fn look_of(pins: usize) -> Look {

@@ -1,50 +1,8 @@
 // Runs the example of document 01 and sheets of each other status through the report, and prints each with its report.
-ghost use Prim.Native.Nat.{_<_, _≤_};
+use printing::quoted;
+use printing::say;
+ghost use Prim.Native.Nat.{_≤_};
 ghost use lib.ListN.{length};
-
-// == Bytes printed so that they can be read.
-
-// Prints bytes as they are.
-fn say(words: &[u8]) {
-    io::write_all(1, words);
-}
-
-// The capital hex digit of a number.
-fn digit(n: u8) -> u8
-    requires { ⌜ n < 16 ⌝ }
-{
-    if n < 10 { 48 + n } else { 55 + n }
-}
-
-// Prints a byte as two hex digits.
-fn hex_byte(b: u8) {
-    say(&[digit(b / 16), digit(b % 16)]);
-}
-
-// Prints a byte so that it can be read: a line end as \n, other control bytes and those above 126 by their hex digits.
-fn escape(b: u8) {
-    if b == 10 {
-        say(b"\\n");
-        return;
-    }
-    if (b < 32) | (126 < b) {
-        say(b"\\x");
-        hex_byte(b);
-        return;
-    }
-    say(&[b]);
-}
-
-// Prints bytes in brackets, each so that it can be read.
-fn quoted(s: &[u8]) {
-    say(b"[");
-    let mut i: usize = 0;
-    while i < s.len() {
-        escape(s[i]);
-        i += 1;
-    }
-    say(b"]");
-}
 
 // == Lists of sheets taken apart.
 

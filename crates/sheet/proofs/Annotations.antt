@@ -14,12 +14,12 @@ use Rattle.paper.specs.Told.{Told}
 use Rattle.answer.specs.Told.{toldOf}
 use Rattle.text.specs.Code.{Reading, got, stuck, Longest}
 use Rattle.text.proofs.Lists.{le-or-lt}
-use Rattle.sheet.specs.Sheet.{nl, Annotation, line, Fields, ValidSheet, front, lines, render, sheets, eq}
-use Rattle.sheet.specs.Read.{readSheet}
-use Rattle.sheet.specs.Given.{isGot, toldRead, fieldsRead, accepted, fieldsIn, tailFrom, annotationFrom, lineAt}
+use Rattle.grammar.specs.Sheet.{nl, Annotation, line, Fields, ValidSheet, front, lines, render, sheets, eq}
+use Rattle.grammar.specs.Read.{readSheet}
+use Rattle.grammar.specs.Given.{isGot, toldRead, fieldsRead, accepted, fieldsIn, tailFrom, annotationFrom, lineAt}
 use Rattle.sheet.specs.declared.Sheet.{Sheet}
-use Rattle.sheet.proofs.Grammar.{refused-at}
-use Rattle.sheet.proofs.Parts.{accepted-render, tail-rest, deed-bytes, line-in, line-from, none-from}
+use Rattle.grammar.proofs.Grammar.{refused-at}
+use Rattle.grammar.proofs.Parts.{accepted-render, some-accepted, tail-rest, deed-bytes, line-in, line-from, none-from}
 use Rattle.sheet.proofs.Unique.{read-op, deed-op, annotation-op, tail-op}
 
 -- a lent slice of bytes
@@ -53,14 +53,6 @@ joined-by (suc n) g h e =
 joined-lines : (l : List Annotation) → joined (length l) (λ n. lineAt l n ++ nl) ≡ lines l
 joined-lines [] = refl
 joined-lines (a ∷ l) = ap (λ (x : List ℕ). (line a ++ nl) ++ x) (joined-lines l)
-
--- a sheet with an annotation is accepted
-some-accepted : (s : List ℕ) → 0 < length (fieldsIn s .annotations) → accepted s ≡ true
-some-accepted s h = go (readSheet s) refl
-  where
-    go : (o : Reading Fields) → readSheet s ≡ o → accepted s ≡ true
-    go (got f n) e = ap isGot e
-    go (stuck n) e = absurd (omega (arith, h, ap (λ (o : Reading Fields). length (fieldsRead o .annotations)) e))
 
 module _ (s : Lent) where
   -- the part that is annotation n holds its line

@@ -10,11 +10,11 @@ use lib.ListN.{length, take, length-append, length-take}
 use lib.Seq.{take-all, take-take, length-take-le}
 use Rattle.paper.proofs.Fills.{lt-or-ge}
 use Rattle.text.specs.Code.{Reading, got, stuck, Begins, Longest}
-use Rattle.sheet.specs.Sheet.{Fields, ValidSheet, render, sheets}
-use Rattle.sheet.specs.Read.{readSheet}
-use Rattle.sheet.specs.Given.{isGot}
-use Rattle.sheet.proofs.Grammar.{refused-at, read-back}
-use Rattle.sheet.proofs.Length.{none-longer}
+use Rattle.grammar.specs.Sheet.{Fields, ValidSheet, render, sheets}
+use Rattle.grammar.specs.Read.{readSheet}
+use Rattle.grammar.specs.Given.{isGot}
+use Rattle.grammar.proofs.Grammar.{refused-at, read-back}
+use Rattle.grammar.proofs.Length.{none-longer}
 use Rattle.wording.specs.Report.{reportTold, settingsIn, reportOf}
 
 -- the longest sheet has 28,152 bytes

@@ -10,8 +10,8 @@ use Rattle.paper.proofs.Choices.{of-both, by-test}
 use Rattle.settings.specs.declared.Settings.{Settings}
 use Rattle.settings.specs.Modes.{modeName}
 use Rattle.settings.proofs.Names.{name-small}
-use Rattle.sheet.specs.Sheet.{eq, nl, lines}
-use Rattle.sheet.specs.Given.{fieldsIn}
+use Rattle.grammar.specs.Sheet.{eq, nl, lines}
+use Rattle.grammar.specs.Given.{fieldsIn}
 use Rattle.wording.specs.Words.{annotationsWord, decimalIn, decimal, lineOf, room, textOf, held}
 use Rattle.wording.specs.Report.{settingsIn, reportTold, statusLine, placeLine, deedLine, settingLines, annotated, reportOf}
 use Rattle.wording.specs.declared.Text.{Text}

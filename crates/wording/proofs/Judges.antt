@@ -13,9 +13,9 @@ use Rattle.paper.specs.Told.{Told, told, done}
 use Rattle.paper.specs.Order.{firstOf}
 use Rattle.control.specs.Control.{played, firstElsewhere, playTold}
 use Rattle.text.specs.Code.{Reading, got, stuck}
-use Rattle.sheet.specs.Sheet.{Fields}
-use Rattle.sheet.specs.Read.{readSheet}
-use Rattle.sheet.specs.Given.{isGot, toldRead, accepted, toldIn, fieldsIn, padded}
+use Rattle.grammar.specs.Sheet.{Fields}
+use Rattle.grammar.specs.Read.{readSheet}
+use Rattle.grammar.specs.Given.{isGot, toldRead, accepted, toldIn, fieldsIn, padded}
 use Rattle.wording.specs.Report.{settingsIn, settingOrder, reportTold, statusLine, placeLine, deedLine, settingLines, annotated, reportOf}
 
 -- the sheet's own answer says whether it is accepted

@@ -5,7 +5,7 @@ use mathlib.Core.List.{List, [], _∷_, _++_, append-assoc}
 use native.Mathlib.Omega.{arith}
 use lib.ListN.{length, take, drop, replicate, length-append, length-replicate}
 use lib.Seq.{paste, take-length, take-append-seam, drop-append-add}
-use Rattle.sheet.specs.Sheet.{nl}
+use Rattle.grammar.specs.Sheet.{nl}
 use Rattle.wording.specs.declared.Text.{Text}
 use Rattle.wording.specs.Words.{room, textOf, held, Holds}
 

@@ -14,11 +14,11 @@ use Rattle.settings.proofs.Names.{name-small, name-bytes}
 use Rattle.counter.specs.Counter.{start, bytesOn, lineStart, addressOf}
 use Rattle.text.specs.Code.{Reading, got, stuck}
 use Rattle.text.specs.Hex.{hex}
-use Rattle.sheet.specs.Sheet.{Fields, front, lines}
-use Rattle.sheet.specs.Read.{readSheet}
-use Rattle.sheet.specs.Given.{isGot, fieldsIn}
-use Rattle.sheet.proofs.Parts.{accepted-render}
-use Rattle.sheet.proofs.Length.{none-longer}
+use Rattle.grammar.specs.Sheet.{Fields, front, lines}
+use Rattle.grammar.specs.Read.{readSheet}
+use Rattle.grammar.specs.Given.{isGot, fieldsIn}
+use Rattle.grammar.proofs.Parts.{accepted-render}
+use Rattle.grammar.proofs.Length.{none-longer}
 
 -- the last two of four hex digits are the two of a byte
 pub two-digits : (p : ℕ) → p < 256 → take 2 (drop 2 (hex 4 p)) ≡ hex 2 p

@@ -13,8 +13,8 @@ use Rattle.settings.specs.Refusals.{pinsAbove, externalText, fastRate}
 use Rattle.control.specs.Control.{played, playOrder}
 use Rattle.counter.specs.Counter.{addressOf}
 use Rattle.text.specs.Hex.{hex}
-use Rattle.sheet.specs.Sheet.{deedWord, pinsWord, lines}
-use Rattle.sheet.specs.Given.{accepted, toldIn, fieldsIn}
+use Rattle.grammar.specs.Sheet.{deedWord, pinsWord, lines}
+use Rattle.grammar.specs.Given.{accepted, toldIn, fieldsIn}
 use Rattle.wording.specs.Words.{statusWord, placeWord, controlWord, modeWord, startWord, annotationsWord, decimal, lineOf}
 
 -- the settings that a sheet gives: its writes played from reset, and its pins

@@ -5,7 +5,7 @@ use mathlib.Core.List.{List, [], _∷_, _++_}
 use lib.Dec.{ltb}
 use lib.ListN.{length, take, replicate}
 use Rattle.paper.specs.Choose.{choose}
-use Rattle.sheet.specs.Sheet.{eq, nl}
+use Rattle.grammar.specs.Sheet.{eq, nl}
 use Rattle.wording.specs.declared.Text.{Text}
 
 -- status, place, control, mode, start, annotations; deed and pins are the sheet's own words

@@ -10,8 +10,8 @@ ghost use Rattle.paper.specs.Told.{done};
 ghost use Rattle.paper.specs.Order.{firstOf};
 ghost use Rattle.answer.specs.Told.{toldOf};
 ghost use Rattle.text.specs.Hex.{hexDigit, hex};
-ghost use Rattle.sheet.specs.Sheet.{nl};
-ghost use Rattle.sheet.specs.Given.{fieldsIn};
+ghost use Rattle.grammar.specs.Sheet.{nl};
+ghost use Rattle.grammar.specs.Given.{fieldsIn};
 ghost use Rattle.wording.specs.Words.{decimal, room, textOf, held, Holds};
 ghost use Rattle.wording.specs.Report.{settingsIn, settingOrder, reportTold, settingLines, annotated, reportOf};
 
@@ -141,7 +141,7 @@ fn setting_lines(text: Text, settings: Settings) -> Text
     let len = name.len;
     let first = counter::first(settings);
     let start = hex(first.address);
-    let one = line(text, &sheet::PINS_KEY, &pins[2..]);
+    let one = line(text, &outline::PINS_KEY, &pins[2..]);
     let two = line(one, &CONTROL_KEY, &control);
     let three = line(two, &MODE_KEY, &letters[..len]);
     line(three, &START_KEY, &start)
@@ -228,13 +228,13 @@ pub fn report(sheet: &[u8]) -> Text
     let number = answer::number(answer);
     let status = number_line(blank(), &STATUS_KEY, number as usize);
     if number == 0 {
-        let named = line(status, &sheet::DEED_KEY, sheet::deed(sheet));
+        let named = line(status, &outline::DEED_KEY, sheet::deed(sheet));
         return annotated(setting_lines(named, settings), sheet, count);
     }
     let placed = number_line(status, &PLACE_KEY, answer::place(answer));
     if number == 11 {
         return placed;
     }
-    let named = line(placed, &sheet::DEED_KEY, sheet::deed(sheet));
+    let named = line(placed, &outline::DEED_KEY, sheet::deed(sheet));
     annotated(named, sheet, count)
 }

@@ -1,4 +1,4 @@
--- `reports::each` is safe and ends.
+-- `reports::each_report` is safe and ends.
 use borrow.Author.Needs.{needs}
 use mathlib.Core.Path.{_≡_}
 use Prim.Native.Nat.{_+_, _-_, _≤_}

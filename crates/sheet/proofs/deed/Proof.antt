@@ -7,10 +7,12 @@ use borrow.Author.Needs.{needs}
 use lib.ListN.{length}
 use denote.Ref.{now}
 use Rattle.paper.specs.Choose.{choose}
-use Rattle.sheet.specs.Sheet.{Fields}
-use Rattle.sheet.specs.Read.{readLines, readSheet}
-use Rattle.sheet.specs.Given.{fieldsIn, deedFrom}
-use Rattle.sheet.proofs.Parts.{WholeGiven, whole-given, broken-given, deed-at, deed-within, part-move}
+use Rattle.grammar.specs.Sheet.{Fields}
+use Rattle.grammar.specs.Read.{readLines, readSheet}
+use Rattle.grammar.specs.Given.{fieldsIn, deedFrom}
+use Rattle.paper.proofs.Parts.{part-move}
+use Rattle.grammar.proofs.Parts.{deed-at, deed-within}
+use Rattle.outline.proofs.Outlined.{WholeGiven, whole-given, broken-given}
 use Rattle.sheet.proofs.deed.Statement.{statement}
 use Rattle.sheet.proofs.deed.Tie as tie
 

@@ -3,10 +3,10 @@ use mathlib.Core.Path.{ap}
 use borrow.Author.Needs.{needs}
 use lib.ListN.{length}
 use denote.Ref.{now}
-use Rattle.sheet.specs.Sheet.{Fields}
-use Rattle.sheet.specs.Read.{readLines}
-use Rattle.sheet.specs.Given.{padded}
-use Rattle.sheet.proofs.Parts.{whole-given, broken-given, count-given}
+use Rattle.grammar.specs.Sheet.{Fields}
+use Rattle.grammar.specs.Read.{readLines}
+use Rattle.grammar.specs.Given.{padded}
+use Rattle.outline.proofs.Outlined.{whole-given, broken-given, count-given}
 use Rattle.sheet.proofs.read.Statement.{statement}
 use Rattle.sheet.proofs.read.Tie as tie
 

@@ -7,10 +7,12 @@ use borrow.Author.Needs.{needs}
 use lib.ListN.{length}
 use denote.Ref.{now}
 use Rattle.paper.specs.Choose.{choose}
-use Rattle.sheet.specs.Sheet.{Fields, front, lines}
-use Rattle.sheet.specs.Read.{readLines, readSheet}
-use Rattle.sheet.specs.Given.{fieldsIn, tailFrom}
-use Rattle.sheet.proofs.Parts.{WholeGiven, whole-given, broken-given, tail-at, tail-size, part-move}
+use Rattle.grammar.specs.Sheet.{Fields, front, lines}
+use Rattle.grammar.specs.Read.{readLines, readSheet}
+use Rattle.grammar.specs.Given.{fieldsIn, tailFrom}
+use Rattle.paper.proofs.Parts.{part-move}
+use Rattle.grammar.proofs.Parts.{tail-at, tail-size}
+use Rattle.outline.proofs.Outlined.{WholeGiven, whole-given, broken-given}
 use Rattle.sheet.proofs.tail.Statement.{statement}
 use Rattle.sheet.proofs.tail.Tie as tie
 

@@ -1,4 +1,4 @@
--- `sheets::each` is safe and ends.
+-- `sheets::each_sheet` is safe and ends.
 use borrow.Author.Needs.{needs}
 use mathlib.Core.Path.{_≡_}
 use Prim.Native.Nat.{_+_, _-_, _≤_}

@@ -5,8 +5,8 @@ use mathlib.Core.List.{List, _++_, append-assoc}
 use native.Mathlib.Omega.{arith}
 use denote.Ref.{now}
 use lib.ListN.{length}
-use Rattle.sheet.specs.Sheet.{eq, nl, lines}
-use Rattle.sheet.specs.Given.{fieldsIn}
+use Rattle.grammar.specs.Sheet.{eq, nl, lines}
+use Rattle.grammar.specs.Given.{fieldsIn}
 use Rattle.sheet.proofs.Annotations.{tail-holds}
 use Rattle.wording.specs.Words.{annotationsWord, decimal, textOf, held}
 use Rattle.wording.proofs.Texts.{grows, then-line}

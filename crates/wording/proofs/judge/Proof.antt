@@ -10,7 +10,7 @@ use Rattle.answer.specs.Told.{toldOf}
 use Rattle.settings.specs.declared.Settings.{Settings}
 use Rattle.control.specs.Control.{played, playTold}
 use Rattle.control.proofs.Plays.{played-done}
-use Rattle.sheet.specs.Given.{toldIn, fieldsIn}
+use Rattle.grammar.specs.Given.{toldIn, fieldsIn}
 use Rattle.wording.specs.Report.{settingsIn, settingOrder}
 use Rattle.wording.proofs.Judges.{told-broken, told-elsewhere, told-settings, writes-are, writes-within}
 use borrow.Author.Needs.{needs}

@@ -3,7 +3,7 @@ use mathlib.Core.Path.{ap, _∙_}
 use mathlib.Core.List.{_++_, append-assoc}
 use native.Mathlib.Omega.{arith}
 use denote.Ref.{now}
-use Rattle.sheet.specs.Sheet.{nl}
+use Rattle.grammar.specs.Sheet.{nl}
 use Rattle.wording.specs.Words.{textOf, held}
 use Rattle.wording.proofs.Texts.{grows}
 use borrow.Author.Needs.{needs}

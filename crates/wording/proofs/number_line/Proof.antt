@@ -6,7 +6,7 @@ use mathlib.Core.List.{List, _++_}
 use denote.Ref.{now}
 use lib.ListN.{length, take, drop, length-take, length-drop}
 use lib.Seq.{take-all}
-use Rattle.sheet.specs.Sheet.{nl}
+use Rattle.grammar.specs.Sheet.{nl}
 use Rattle.wording.specs.Words.{decimal, textOf, held}
 use borrow.Author.Needs.{needs}
 use Rattle.wording.proofs.number_line.Statement.{statement}

@@ -9,8 +9,8 @@ use lib.ListN.{length}
 use Rattle.paper.specs.Told.{Told}
 use Rattle.answer.specs.Told.{toldOf}
 use Rattle.settings.specs.declared.Settings.{Settings}
-use Rattle.sheet.specs.Sheet.{deedWord, eq}
-use Rattle.sheet.specs.Given.{fieldsIn}
+use Rattle.grammar.specs.Sheet.{deedWord, eq}
+use Rattle.grammar.specs.Given.{fieldsIn}
 use Rattle.sheet.proofs.Annotations.{Lent, Deed, deed-holds}
 use Rattle.wording.specs.Words.{statusWord, placeWord, decimal, textOf, held}
 use Rattle.wording.specs.Report.{settingsIn, reportTold, statusLine, placeLine, settingLines, annotated, reportOf}

@@ -9,7 +9,7 @@ use Rattle.settings.proofs.Names.{name-small}
 use Rattle.counter.specs.declared.Counter.{Counter}
 use Rattle.counter.specs.Counter.{addressOf}
 use Rattle.text.specs.Hex.{hex}
-use Rattle.sheet.specs.Sheet.{pinsWord, eq}
+use Rattle.grammar.specs.Sheet.{pinsWord, eq}
 use Rattle.wording.specs.Words.{controlWord, modeWord, startWord, textOf, held}
 use Rattle.wording.proofs.Texts.{then-line}
 use Rattle.wording.proofs.Values.{two-digits, first-address, name-is, name-within, name-long}

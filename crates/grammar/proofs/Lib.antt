@@ -1,0 +1,6 @@
+-- The laws of the sheet's grammar.
+pub mod Numbers
+pub mod Keys
+pub mod Grammar
+pub mod Parts
+pub mod Length

@@ -1,0 +1,74 @@
+-- How a sheet is read, line by line.
+use Prim.Native.Nat.{ℕ, _+_, _-_, _*_}
+use mathlib.Core.List.{List, [], _∷_, _++_}
+use mathlib.Core.Bool.{Bool, _&&_}
+use lib.Dec.{leb, eqb}
+use Rattle.paper.specs.Choose.{choose}
+use Rattle.text.specs.Code.{Reading, got, stuck}
+use Rattle.text.specs.Combine.{mapped, bump, andThen, readLed, readClosed, readTimes, readUpTo, readOnly}
+use Rattle.text.specs.Hex.{between, readHex}
+use Rattle.grammar.specs.Sheet.{deedByte, keyByte, valueByte, deedWord, pinsWord, writesWord, atWord, eq, free, Annotation, Fields}
+
+abbrev pub readDeed : List ℕ → Reading (List ℕ)
+readDeed s = readLed (deedWord ++ eq) (readClosed deedByte 1 16 10) s
+
+abbrev pub readPins : List ℕ → Reading ℕ
+readPins s = readLed (pinsWord ++ eq) (readHex 2 10) s
+
+abbrev pub readAt : List ℕ → Reading ℕ
+readAt s = readLed (atWord ++ eq) (readHex 4 10) s
+
+-- ---- the number of writes
+-- the line end after the number v
+abbrev pub closing : ℕ → List ℕ → Reading ℕ
+closing v [] = stuck 0
+closing v (c ∷ s) = choose (eqb c 10) (got v 1) (stuck 0)
+
+abbrev pub digit : ℕ → Bool
+digit b = between 48 57 b
+
+-- a second digit c is read after the first, d, where that is not 0 and the number is at most 64
+abbrev pub more : ℕ → ℕ → Bool
+more d c = digit c && (leb 1 d && leb (10 * d + (c - 48)) 64)
+
+abbrev pub readSecond : ℕ → List ℕ → Reading ℕ
+readSecond d [] = stuck 0
+readSecond d (c ∷ s) = choose (more d c) (bump (λ v. v) (closing (10 * d + (c - 48)) s)) (closing d (c ∷ s))
+
+abbrev pub readNumber : List ℕ → Reading ℕ
+readNumber [] = stuck 0
+readNumber (b ∷ s) = choose (digit b) (bump (λ v. v) (readSecond (b - 48) s)) (stuck 0)
+
+abbrev pub readCount : List ℕ → Reading ℕ
+readCount s = readLed (writesWord ++ eq) readNumber s
+
+-- ---- annotations
+abbrev pub toAnnotation : List ℕ × List ℕ → Annotation
+toAnnotation p = record { key = p .0; value = p .1 }
+
+abbrev pub readAnnotation : List ℕ → Reading Annotation
+readAnnotation s = mapped toAnnotation (andThen s (readOnly free (readClosed keyByte 1 16 61 s)) (λ _ r. readClosed valueByte 0 120 10 r))
+
+abbrev pub readAnnotations : List ℕ → Reading (List Annotation)
+readAnnotations s = readUpTo readAnnotation 200 s
+
+-- ---- the whole: the fixed lines, and then the annotations to the end
+-- deed, pins, number of writes, writes
+abbrev pub Front : Type 0
+Front = List ℕ × (ℕ × (ℕ × List ℕ))
+
+abbrev pub readFront : List ℕ → Reading Front
+readFront s =
+    andThen s (readDeed s) λ _ s.
+    andThen s (readPins s) λ _ s.
+    andThen s (readCount s) λ n s.
+    readTimes readAt n s
+
+abbrev pub readLines : List ℕ → Reading (Front × List Annotation)
+readLines s = andThen s (readFront s) (λ _ r. readAnnotations r)
+
+abbrev pub toFields : Front × List Annotation → Fields
+toFields v = record { deed = v .0 .0; pins = v .0 .1 .0; writes = v .0 .1 .1 .1; annotations = v .1 }
+
+abbrev pub readSheet : List ℕ → Reading Fields
+readSheet s = mapped toFields (readLines s)

@@ -1,0 +1,9 @@
+-- The laws of one pass over a sheet.
+pub mod Stepped
+pub mod Counting
+pub mod Written
+pub mod Fields
+pub mod Annotated
+pub mod Surveyed
+pub mod Outlined
+pub mod Unique

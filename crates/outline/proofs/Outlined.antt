@@ -1,0 +1,56 @@
+-- What one pass over a sheet finds, in the operations' own words.
+use Prim.Native.Nat.{ℕ, _<_}
+use native.Mathlib.Omega.{arith}
+use mathlib.Core.Path.{_≡_, refl, ap}
+use mathlib.Core.List.{List}
+use mathlib.Core.Bool.{true, false}
+use lib.ListN.{length}
+use Rattle.paper.specs.Told.{done, told}
+use Rattle.text.specs.Code.{Reading, got, stuck}
+use Rattle.text.specs.Combine.{mapped}
+use Rattle.text.proofs.Tests.{clash}
+use Rattle.grammar.specs.Sheet.{Annotation, Fields, front}
+use Rattle.grammar.specs.Read.{Front, toFields}
+use Rattle.grammar.specs.Given.{isGot, toldRead, noFields, fieldsRead, padded}
+use Rattle.outline.specs.Steps.{outlineOf}
+use Rattle.outline.specs.declared.Outline.{Outline}
+
+pub record WholeGiven (o : Reading Fields) (r : Outline) : Type 0 where
+  pub is-got : isGot o ≡ true
+  pub told-done : done 0 ≡ toldRead o
+  pub deed : r .deed ≡ length (fieldsRead o .deed)
+  pub pins : r .pins ≡ fieldsRead o .pins
+  pub writes : r .writes ≡ padded 64 (fieldsRead o .writes)
+  pub count : r .«write_count» ≡ length (fieldsRead o .writes)
+  pub tail : r .tail ≡ length (front (fieldsRead o))
+
+module _ (o : Reading (Front × List Annotation)) (r : Outline) (e : r ≡ outlineOf o) where
+  pub whole-given : r .whole ≡ true → WholeGiven (mapped toFields o) r
+  whole-given h = go o e
+    where
+      go : (o : Reading (Front × List Annotation)) → r ≡ outlineOf o → WholeGiven (mapped toFields o) r
+      go (got v n) e =
+          record { is-got = refl; told-done = refl; deed = ap (λ (x : Outline). x .deed) e; pins = ap (λ (x : Outline). x .pins) e; writes = ap (λ (x : Outline). x .writes) e; count = ap (λ (x : Outline). x .«write_count») e; tail = ap (λ (x : Outline). x .tail) e }
+      go (stuck n) e = absurd (clash h (ap (λ (x : Outline). x .whole) e))
+
+  pub broken-given : r .whole ≡ false → (isGot (mapped toFields o) ≡ false) × (told 11 (r .place) 0 ≡ toldRead (mapped toFields o)) × (noFields ≡ fieldsRead (mapped toFields o))
+  broken-given h = go o e
+    where
+      go : (o : Reading (Front × List Annotation)) → r ≡ outlineOf o → (isGot (mapped toFields o) ≡ false) × (told 11 (r .place) 0 ≡ toldRead (mapped toFields o)) × (noFields ≡ fieldsRead (mapped toFields o))
+      go (got v n) e = absurd (clash (ap (λ (x : Outline). x .whole) e) h)
+      go (stuck n) e = (refl, ap (λ (x : Outline). told 11 (x .place) 0) e, refl)
+
+  pub count-given : r .annotations ≡ length (fieldsRead (mapped toFields o) .annotations)
+  count-given = go o e
+    where
+      go : (o : Reading (Front × List Annotation)) → r ≡ outlineOf o → r .annotations ≡ length (fieldsRead (mapped toFields o) .annotations)
+      go (got v n) e = ap (λ (x : Outline). x .annotations) e
+      go (stuck n) e = ap (λ (x : Outline). x .annotations) e
+
+  -- where there is an annotation, the sheet is whole
+  pub some-whole : 0 < r .annotations → r .whole ≡ true
+  some-whole h = go o e
+    where
+      go : (o : Reading (Front × List Annotation)) → r ≡ outlineOf o → r .whole ≡ true
+      go (got v n) e = ap (λ (x : Outline). x .whole) e
+      go (stuck n) e = absurd (omega (arith, h, ap (λ (x : Outline). x .annotations) e))

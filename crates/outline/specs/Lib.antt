@@ -1,0 +1,2 @@
+-- What the functions that pass over a sheet answer.
+pub mod Steps
