@@ -10,7 +10,7 @@ use denote.Enum.Declared.{tagOf}
 use Rattle.paper.specs.Choose.{choose}
 use Rattle.paper.specs.Told.{Told}
 use Rattle.answer.specs.declared.Answer.{Answer}
-use Rattle.answer.specs.declared.Answer.the-variants.{Done, PinsAbove, External, TextBack, FastRate, ImageLength, FontLength, ShortStrip, ShortFrame, Stray, Elsewhere, BrokenSheet}
+use Rattle.answer.specs.declared.Answer.the-variants.{Done, PinsAbove, External, TextBack, FastRate, ImageLength, FontLength, ShortStrip, ShortFrame, Stray, Elsewhere, BrokenSheet, OtherChip, ShortDestination}
 use Rattle.answer.proofs.Answer.{the-type}
 use Rattle.answer.specs.Told.{toldOf}
 
@@ -27,7 +27,9 @@ ofTold t =
     (choose (eqb (t .number) 7) ShortStrip
     (choose (eqb (t .number) 8) ShortFrame
     (choose (eqb (t .number) 9) (Stray (t .place))
-    (choose (eqb (t .number) 10) (Elsewhere (t .place) (t .value)) (BrokenSheet (t .place))))))))))))
+    (choose (eqb (t .number) 10) (Elsewhere (t .place) (t .value))
+    (choose (eqb (t .number) 11) (BrokenSheet (t .place))
+    (choose (eqb (t .number) 13) OtherChip ShortDestination))))))))))))
 
 back : (a : Answer) → ofTold (toldOf a) ≡ a
 unfolding ofTold
@@ -43,6 +45,8 @@ back ShortFrame = refl
 back (Stray p) = refl
 back (Elsewhere p w) = refl
 back (BrokenSheet p) = refl
+back OtherChip = refl
+back ShortDestination = refl
 
 -- two answers that are told alike are one
 pub told-alike : {a b : Answer} → toldOf a ≡ toldOf b → a ≡ b
@@ -54,7 +58,7 @@ one-answer p q = told-alike (p ∙ sym q)
 
 -- the number says which arm `if let Answer::Done(..)` takes: the arm's tag is 0, and in the other arm it is one of the rest
 abbrev pub otherTags : List ℕ
-otherTags = 1 ∷ 2 ∷ 3 ∷ 4 ∷ 5 ∷ 6 ∷ 7 ∷ 8 ∷ 9 ∷ 10 ∷ 11 ∷ []
+otherTags = 1 ∷ 2 ∷ 3 ∷ 4 ∷ 5 ∷ 6 ∷ 7 ∷ 8 ∷ 9 ∷ 10 ∷ 11 ∷ 12 ∷ 13 ∷ []
 
 pub done-arm : (a : Answer) → (tagOf the-type a ≡ 0 → toldOf a .number ≡ 0) × (OneOf otherTags (tagOf the-type a) → eqb (toldOf a .number) 0 ≡ false)
 done-arm (Done v) = (λ e. refl, λ t. absurd (miss otherTags 0 tt t))
@@ -69,3 +73,5 @@ done-arm ShortFrame = (λ e. absurd (omega arith), λ t. refl)
 done-arm (Stray p) = (λ e. absurd (omega arith), λ t. refl)
 done-arm (Elsewhere p w) = (λ e. absurd (omega arith), λ t. refl)
 done-arm (BrokenSheet p) = (λ e. absurd (omega arith), λ t. refl)
+done-arm OtherChip = (λ e. absurd (omega arith), λ t. refl)
+done-arm ShortDestination = (λ e. absurd (omega arith), λ t. refl)

@@ -5,7 +5,8 @@ ghost use lib.Dec.{eqb};
 ghost use Rattle.paper.specs.Choose.{choose};
 ghost use Rattle.answer.specs.Told.{toldOf};
 
-// Done with its value, or refused: a case for each number of document 01, in its order, holding what the paper gives it.
+// Done with its value, or refused: a case for each number of documents 01 and 02, in the order in which they landed, holding what
+// the paper gives it.
 pub enum Answer {
     Done(usize),
     PinsAbove,
@@ -22,6 +23,8 @@ pub enum Answer {
     Elsewhere(usize, u16),
     // The length of the sheet's longest beginning that some accepted sheet has.
     BrokenSheet(usize),
+    OtherChip,
+    ShortDestination,
 }
 
 // The number that a clerk sees.
@@ -41,6 +44,8 @@ pub fn number(a: Answer) -> u8
         Answer::Stray(_) => 9,
         Answer::Elsewhere(_, _) => 10,
         Answer::BrokenSheet(_) => 11,
+        Answer::OtherChip => 13,
+        Answer::ShortDestination => 14,
     }
 }
 
@@ -61,6 +66,8 @@ pub fn place(a: Answer) -> usize
         Answer::Stray(p) => p,
         Answer::Elsewhere(p, _) => p,
         Answer::BrokenSheet(p) => p,
+        Answer::OtherChip => 0,
+        Answer::ShortDestination => 0,
     }
 }
 
@@ -81,6 +88,8 @@ pub fn value(a: Answer) -> usize
         Answer::Stray(_) => 0,
         Answer::Elsewhere(_, word) => word as usize,
         Answer::BrokenSheet(_) => 0,
+        Answer::OtherChip => 0,
+        Answer::ShortDestination => 0,
     }
 }
 

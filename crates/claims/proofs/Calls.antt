@@ -12,6 +12,7 @@ use Rattle.strip.proofs.Unique.{fetch-op}
 use Rattle.frame.proofs.Unique.{draw-op}
 use Rattle.screen.proofs.Unique.{show-op}
 use Rattle.back.proofs.Unique.{read-back-op}
+use Rattle.chip.proofs.Unique.{to-image-op, to-chip-op}
 use Rattle.wording.specs.declared.Text.{Text}
 use Rattle.wording.proofs.Unique.{report-op}
 
@@ -39,6 +40,14 @@ Shows κs s image font strip frame z bytes pixels =
 -- `read_back` may answer z and leave `out` in the strip
 abbrev pub ReadsBack : Lfts 2 → Look → Lent → Lent → Answer → List ℕ → Type 0
 ReadsBack κs l frame strip z out = Allows read-back-op κs (l, (frame, (strip, tt))) z (tt, (tt, (out, tt)))
+
+-- `to_image` may answer z and leave `out` in the image
+abbrev pub ToImage : Lfts 2 → ℕ → Lent → Lent → Answer → List ℕ → Type 0
+ToImage κs k chip image z out = Allows to-image-op κs (k, (chip, (image, tt))) z (tt, (tt, (out, tt)))
+
+-- `to_chip` may answer z and leave `out` in the chip
+abbrev pub ToChip : Lfts 2 → ℕ → Lent → Lent → Answer → List ℕ → Type 0
+ToChip κs k image chip z out = Allows to-chip-op κs (k, (image, (chip, tt))) z (tt, (tt, (out, tt)))
 
 -- `report` may give the text r
 abbrev pub Reports : Lfts 1 → Lent → Text → Type 0

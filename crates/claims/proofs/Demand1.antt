@@ -1,7 +1,7 @@
 -- Demand 1. "Every entry point takes all bytes and numbers, ends, and refuses bad input by itself, with a number and a place, writing no
 -- lent byte. A success writes only the part that is named." That every input is taken is `all-fix` of Operations; that each call ends comes
 -- with the proof of its function.
-use Prim.Native.Nat.{ℕ, _≤_, _<_}
+use Prim.Native.Nat.{ℕ, _^_, _≤_, _<_}
 use mathlib.Core.Path.{_≡_, refl, sym, ap, _∙_}
 use mathlib.Core.Bool.{Bool, true, false}
 use mathlib.Core.List.{List, _++_}
@@ -33,7 +33,9 @@ use Rattle.screen.proofs.Shows.{fetch-done, draw-done, shown-done, shown-refuse
 use Rattle.back.specs.Read.{readByte}
 use Rattle.back.specs.Back.{lengthOrder, strayOrder, backTold}
 use Rattle.back.proofs.Backs.{back-accepted, strip-done as back-done, strip-kept}
-use Rattle.claims.proofs.Calls.{Lent, Plays, Fetches, Draws, Shows, ReadsBack}
+use Rattle.chip.specs.Chip.{chipOrder, chipTold, chipAfter, crossedByte}
+use Rattle.chip.proofs.Answers.{accepted as chip-accepted, room-done, room-refused}
+use Rattle.claims.proofs.Calls.{Lent, Plays, Fetches, Draws, Shows, ReadsBack, ToImage, ToChip}
 
 -- what is told is what the order says: each number exactly when its condition holds and none earlier does, done exactly when none does
 pub record Ordered (told : Told) (order : List Check) (value : ℕ) : Type 0 where
@@ -122,3 +124,22 @@ back-demand κs l frame strip z out p = (
       (λ e. let d = rw (p .0) at e in (back-accepted l (now frame) (now strip) d .0 .strip-long, p .1 ∙ back-done l (now frame) (now strip) d))
       (λ e. p .1 ∙ strip-kept l (now frame) (now strip) (rw (p .0) at e)),
 )
+
+-- both directions of the chips promise the same of what is lent and the room
+chip-demand : (k : ℕ) (lent room : Lent) (z : Answer) (out : List ℕ) → (toldOf z ≡ chipTold k (length (now lent)) (length (now room))) × (out ≡ chipAfter k (now lent) (now room))
+    → Ordered (toldOf z) (chipOrder k (length (now lent)) (length (now room))) 0 × Guarded (toldOf z) (length (now lent)) (now room) out
+unfolding chipTold
+chip-demand k lent room z out p = (
+  ordered (chipOrder k (length (now lent)) (length (now room))) 0 tt (p .0),
+  guarded (crossedByte (2 ^ k) (now lent)) (length (now lent)) (now room)
+      (λ e. let d = rw (p .0) at e in (chip-accepted k (length (now lent)) (length (now room)) d .1, p .1 ∙ room-done k (now lent) (now room) d))
+      (λ e. p .1 ∙ room-refused k (now lent) (now room) (rw (p .0) at e)),
+)
+
+pub to-image-demand : (κs : Lfts 2) (k : ℕ) (chip image : Lent) (z : Answer) (out : List ℕ) → ToImage κs k chip image z out
+    → Ordered (toldOf z) (chipOrder k (length (now chip)) (length (now image))) 0 × Guarded (toldOf z) (length (now chip)) (now image) out
+to-image-demand κs k chip image z out p = chip-demand k chip image z out p
+
+pub to-chip-demand : (κs : Lfts 2) (k : ℕ) (image chip : Lent) (z : Answer) (out : List ℕ) → ToChip κs k image chip z out
+    → Ordered (toldOf z) (chipOrder k (length (now image)) (length (now chip))) 0 × Guarded (toldOf z) (length (now image)) (now chip) out
+to-chip-demand κs k image chip z out p = chip-demand k image chip z out p

@@ -1,4 +1,4 @@
--- The claims: the figures, the list of operations, the three demands, and the tools that are unfit.
+-- The claims: the figures, the list of operations, the three demands, the tools that are unfit, and the requests.
 pub mod Figures
 pub mod Operations
 pub mod Calls
@@ -6,3 +6,4 @@ pub mod Demand1
 pub mod Demand2
 pub mod Demand3
 pub mod Unfit
+pub mod Chips

@@ -10,6 +10,7 @@ use Rattle.strip.proofs.Unique as strip
 use Rattle.frame.proofs.Unique as frame
 use Rattle.screen.proofs.Unique as screen
 use Rattle.back.proofs.Unique as back
+use Rattle.chip.proofs.Unique as chip
 use Rattle.outline.proofs.Unique as outline
 use Rattle.sheet.proofs.Unique as sheet
 use Rattle.wording.proofs.Unique as wording
@@ -43,6 +44,8 @@ operations =
     ∷ frame.draw-op
     ∷ screen.show-op
     ∷ back.read-back-op
+    ∷ chip.to-image-op
+    ∷ chip.to-chip-op
     ∷ outline.survey-op
     ∷ outline.annotation-op
     ∷ sheet.read-op
@@ -87,6 +90,8 @@ all-fix =
     & frame.draw-fixes
     & screen.show-fixes
     & back.read-back-fixes
+    & chip.to-image-fixes
+    & chip.to-chip-fixes
     & outline.survey-fixes
     & outline.annotation-fixes
     & sheet.read-fixes
@@ -130,6 +135,8 @@ pub named : map (λ o. o .key) operations
     ∷ "frame::draw"
     ∷ "screen::show"
     ∷ "back::read_back"
+    ∷ "chip::to_image"
+    ∷ "chip::to_chip"
     ∷ "outline::survey"
     ∷ "outline::annotation"
     ∷ "sheet::read"

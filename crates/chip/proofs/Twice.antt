@@ -1,0 +1,58 @@
+-- The bytes after one crossing and after two: each byte by its address, and doing it twice gives the bytes back.
+use Prim.Native.Nat.{ℕ, _*_, _%_, _/_, _^_, _<_, _≤_}
+use mathlib.Core.Path.{_≡_, refl, sym, ap, _∙_}
+use mathlib.Core.Bool.{true}
+use mathlib.Core.List.{List}
+use native.Mathlib.Omega.{arith}
+use native.Mathlib.Nat.{div-add-mod'}
+use lib.ListN.{length, getD, take}
+use lib.Seq.{length-take-le, getD-take, ext-getD}
+use Rattle.paper.proofs.Fills.{written-fills, length-written}
+use Rattle.chip.specs.Chip.{chipFits, chipTold, chipAfter, chipPlace, crossedByte}
+use Rattle.chip.proofs.Places.{own-inverse, stays-in}
+use Rattle.chip.proofs.Shapes.{shape}
+use Rattle.chip.proofs.Answers.{accepted, room-done}
+
+-- no place is lost or used twice: the map keeps within what is lent, and is its own inverse
+pub keeps : (k n : ℕ) → chipFits k n ≡ true → (a : ℕ) → a < n → chipPlace k a < n
+keeps k n h a l =
+    let f = shape k n h in
+    let b = 2 ^ k * 2 ^ k in
+    let e : n ≡ n / b * b = omega (arith, div-add-mod' n b, f .4) in
+    rw (sym e) at (stays-in (2 ^ k) (f .2) (n / b) (rw e at l))
+
+pub inverse : (k n : ℕ) → chipFits k n ≡ true → (a : ℕ) → chipPlace k (chipPlace k a) ≡ a
+inverse k n h a = own-inverse (2 ^ k) (shape k n h .2) a
+
+module _ (k : ℕ) (lent room : List ℕ) (d : chipTold k (length lent) (length room) .number ≡ 0) where
+  -- each byte by where it came from
+  pub byte-from : (a : ℕ) → a < length lent → getD (chipAfter k lent room) a 0 ≡ getD lent (chipPlace k a) 0
+  byte-from a l = rw (room-done k lent room d) (written-fills (crossedByte (2 ^ k) lent) (length lent) room (accepted k (length lent) (length room) d .1) .is a (omega arith) l)
+
+  -- and by where it went
+  pub byte-to : (a : ℕ) → a < length lent → getD (chipAfter k lent room) (chipPlace k a) 0 ≡ getD lent a 0
+  byte-to a l =
+      let f = accepted k (length lent) (length room) d .0 in
+      byte-from (chipPlace k a) (keeps k (length lent) f a l) ∙ ap (λ (p : ℕ). getD lent p 0) (inverse k (length lent) f a)
+
+  after-length : length (chipAfter k lent room) ≡ length room
+  after-length = rw (room-done k lent room d) (length-written (crossedByte (2 ^ k) lent) (length lent) room)
+
+-- what was crossed, crossed once more, is what was lent
+pub twice : (k : ℕ) (lent room : List ℕ) → chipTold k (length lent) (length room) .number ≡ 0
+    → (lent′ room′ : List ℕ) → lent′ ≡ take (length lent) (chipAfter k lent room) → chipTold k (length lent′) (length room′) .number ≡ 0
+    → take (length lent) (chipAfter k lent′ room′) ≡ lent
+twice k lent room d lent′ room′ e d′ =
+    let n = length lent in
+    let out = chipAfter k lent room in
+    let out′ = chipAfter k lent′ room′ in
+    let f = accepted k n (length room) d in
+    let long : length lent′ ≡ n = ap length e ∙ length-take-le n out (omega (arith, f .1, after-length k lent room d)) in
+    let long′ : length (take n out′) ≡ n = length-take-le n out′ (omega (arith, long, accepted k (length lent′) (length room′) d′ .1, after-length k lent′ room′ d′)) in
+    ext-getD 0 (take n out′) lent long′ (λ a l.
+    let below : a < n = omega (arith, l, long′) in
+    getD-take n out′ a 0 below
+    ∙ byte-from k lent′ room′ d′ a (omega (arith, below, long))
+    ∙ ap (λ (x : List ℕ). getD x (chipPlace k a) 0) e
+    ∙ getD-take n out (chipPlace k a) 0 (keeps k n (f .0) a below)
+    ∙ byte-to k lent room d a below)

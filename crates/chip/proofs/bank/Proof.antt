@@ -1,0 +1,48 @@
+-- `chip::bank` meets its contract.
+use Prim.Native.Nat.{_+_, _-_, _%_, _≤_}
+use mathlib.Core.Path.{_≡_, refl}
+use native.Mathlib.Omega.{arith}
+use denote.Ref.{now}
+use Rattle.chip.specs.Chip.{crossedByte}
+use Rattle.chip.specs.Crossing.{Crossing}
+use Rattle.chip.proofs.Crossings.{start, columns-more, bank-filled}
+use Rattle.chip.proofs.bank.Statement.{statement}
+use Rattle.chip.proofs.bank.Tie as tie
+
+abbrev Inv-loop : tie.InvT-loop
+Inv-loop lent base side room₀ column₀ room column =
+    (column ≤ side) × (column % 64 ≡ 0) × Crossing (crossedByte side lent) base side column 0 room₀ room
+
+abbrev μ-loop : tie.MeasureT-loop
+μ-loop lent base side room₀ column₀ room column = side - column
+
+loop-holds : tie.Need-loop-holds Inv-loop μ-loop
+loop-holds c = (omega arith, refl, start _)
+
+columns-requires : tie.Need-columns-requires Inv-loop μ-loop
+columns-requires c κs =
+    let a = c .before .before .before .before .before in
+    let l = c .before .before .loop in
+    ((a .pre .0 .0, omega (arith, a .pre .0 .1, l .inv .1, c .before .loop-test .taken)), (a .pre .1 .0, a .pre .1 .1, omega (arith, a .pre .1 .2, l .inv .2 .long)))
+
+add-column : tie.Need-add-column Inv-loop μ-loop
+add-column c = omega arith
+
+loop-less : tie.Need-loop-less Inv-loop μ-loop
+loop-less c = omega arith
+
+loop-again : tie.Need-loop-again Inv-loop μ-loop
+loop-again c =
+    let a = c .before .before .before .before .before .before .before .before in
+    let l = c .before .before .before .before .before .loop in
+    let t = c .before .before .before .before .loop-test .taken in
+    (omega (arith, a .pre .0 .1, l .inv .1, t), omega (arith, l .inv .1), columns-more (c .before .before .columns .ensures (now (a .args .room)) (l .inv .2)))
+
+same-length : tie.Need-same-length Inv-loop μ-loop
+same-length c = c .before .loop .inv .2 .long
+
+returns : tie.Need-returns Inv-loop μ-loop
+returns c = bank-filled (c .before .before .before .before .pre .0 .2) (c .loop-test .left) (c .before .loop .inv .2)
+
+pub bank-spec : {M : Type 1} → statement M
+bank-spec = tie.close (tie.spec Inv-loop μ-loop loop-holds columns-requires add-column loop-less loop-again same-length returns)

@@ -1,0 +1,114 @@
+// Images straight from the chips: an image from what was read off the chips, and back, bank by bank from one buffer into a second.
+use answer::Answer;
+ghost use mathlib.Core.Path.{_≡_};
+ghost use Prim.Native.Nat.{ℕ, _+_, _-_, _*_, _%_, _<_, _≤_};
+ghost use lib.ListN.{length, getD};
+ghost use Rattle.paper.specs.Written.{Filled};
+ghost use Rattle.answer.specs.Told.{toldOf};
+ghost use Rattle.chip.specs.Chip.{chipFits, chipTold, chipAfter, crossedByte};
+ghost use Rattle.chip.specs.Crossing.{Carries};
+
+// Whether n places are one or two banks of chips with k address pins.
+fn fits(k: usize, n: usize) -> bool
+    ensures { λ r. ⌜ r ≡ chipFits k n ⌝ }
+{
+    match k {
+        6 => (n == 4096) | (n == 8192),
+        7 => (n == 16384) | (n == 32768),
+        8 => n == 65536,
+        _ => false,
+    }
+}
+
+// What crossing answers, from the number of pins and the lengths of what is lent.
+fn chip_answer(k: usize, lent: usize, room: usize) -> Answer
+    ensures { λ r. ⌜ toldOf r ≡ chipTold k lent room ⌝ }
+{
+    let mut answer = Answer::Done(0);
+    answer = answer::check(answer, !fits(k, lent), Answer::OtherChip);
+    answer = answer::check(answer, room < lent, Answer::ShortDestination);
+    answer
+}
+
+// Puts 64 bytes of a column, `side` apart from `from` on, side by side from `at` on: as many as stand in a line of the cache.
+fn piece(lent: &[u8], from: usize, side: usize, room: &mut [u8], at: usize)
+    requires { ⌜ (side ≤ 256) × (from + 63 * side < length (now lent)) × (at + 64 ≤ length (now room)) ⌝ }
+    ensures { λ _. ⌜ Filled (λ k. getD (now (lent .entry)) (from + (k - at) * side) 0) at (at + 64) (now (room .entry)) (now (room .exit)) ⌝ }
+{
+    let mut i = 0;
+    while i < 64 {
+        room[at + i] = lent[from + i * side];
+        i += 1;
+    }
+}
+
+// Crosses 64 columns of the bank at `base`: the piece of each row that they make.
+fn columns(lent: &[u8], base: usize, side: usize, column: usize, room: &mut [u8])
+    requires { ⌜ (side ≤ 256) × (column + 64 ≤ side) ⌝ }
+    requires { ⌜ (base % (side * side) ≡ 0) × (base + side * side ≤ length (now lent)) × (base + side * side ≤ length (now room)) ⌝ }
+    ensures { λ _. ⌜ Carries (crossedByte side (now (lent .entry))) base side column side (now (room .entry)) (now (room .exit)) ⌝ }
+{
+    let mut row = 0;
+    while row < side {
+        let from = base + (column * side + row);
+        let at = base + (row * side + column);
+        piece(lent, from, side, room, at);
+        row += 1;
+    }
+}
+
+// Crosses the bank at `base`.
+fn bank(lent: &[u8], base: usize, side: usize, room: &mut [u8])
+    requires { ⌜ (side ≤ 256) × (side % 64 ≡ 0) × (0 < side) ⌝ }
+    requires { ⌜ (base % (side * side) ≡ 0) × (base + side * side ≤ length (now lent)) × (base + side * side ≤ length (now room)) ⌝ }
+    ensures { λ _. ⌜ Filled (crossedByte side (now (lent .entry))) base (base + side * side) (now (room .entry)) (now (room .exit)) ⌝ }
+{
+    let mut column = 0;
+    while column < side {
+        columns(lent, base, side, column, room);
+        column += 64;
+    }
+}
+
+// Crosses the banks that are lent.
+fn banks(lent: &[u8], side: usize, room: &mut [u8])
+    requires { ⌜ (side ≤ 256) × (side % 64 ≡ 0) × (0 < side) ⌝ }
+    requires { ⌜ (length (now lent) % (side * side) ≡ 0) × (length (now lent) ≤ length (now room)) ⌝ }
+    ensures { λ _. ⌜ Filled (crossedByte side (now (lent .entry))) 0 (length (now (lent .entry))) (now (room .entry)) (now (room .exit)) ⌝ }
+{
+    let size = side * side;
+    let mut base = 0;
+    while base < lent.len() {
+        bank(lent, base, side, room);
+        base += size;
+    }
+}
+
+// Crosses what is lent into the room, or refuses. The map is its own inverse, so that this serves both directions.
+fn crossed(k: usize, lent: &[u8], room: &mut [u8]) -> Answer
+    ensures answer { λ r. ⌜ toldOf r ≡ chipTold k (length (now (lent .entry))) (length (now (room .entry))) ⌝ }
+    ensures bytes { λ r. ⌜ now (room .exit) ≡ chipAfter k (now (lent .entry)) (now (room .entry)) ⌝ }
+{
+    let answer = chip_answer(k, lent.len(), room.len());
+    if let Answer::Done(_) = answer {
+        let side = 1 << k;
+        banks(lent, side, room);
+    }
+    answer
+}
+
+// The image whose bytes were read off chips with k address pins, row by row.
+pub fn to_image(k: usize, chip: &[u8], image: &mut [u8]) -> Answer
+    ensures answer { λ r. ⌜ toldOf r ≡ chipTold k (length (now (chip .entry))) (length (now (image .entry))) ⌝ }
+    ensures bytes { λ r. ⌜ now (image .exit) ≡ chipAfter k (now (chip .entry)) (now (image .entry)) ⌝ }
+{
+    crossed(k, chip, image)
+}
+
+// What chips with k address pins hold of an image, row by row.
+pub fn to_chip(k: usize, image: &[u8], chip: &mut [u8]) -> Answer
+    ensures answer { λ r. ⌜ toldOf r ≡ chipTold k (length (now (image .entry))) (length (now (chip .entry))) ⌝ }
+    ensures bytes { λ r. ⌜ now (chip .exit) ≡ chipAfter k (now (image .entry)) (now (chip .entry)) ⌝ }
+{
+    crossed(k, image, chip)
+}
