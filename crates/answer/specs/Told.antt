@@ -1,5 +1,4 @@
 -- The numbers a clerk sees: what document 01's table, and document 02 after it, tells of each answer, a line for each case.
-use Prim.Native.Nat.{ℕ}
 use Rattle.paper.specs.Told.{Told, told, done, refused}
 use Rattle.answer.specs.declared.Answer.{Answer}
 use Rattle.answer.specs.declared.Answer.the-variants.{Done, PinsAbove, External, TextBack, FastRate, ImageLength, FontLength, ShortStrip, ShortFrame, Stray, Elsewhere, BrokenSheet, OtherChip, ShortDestination}

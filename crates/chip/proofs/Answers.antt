@@ -1,5 +1,5 @@
 -- Laws of what crossing answers and leaves.
-use Prim.Native.Nat.{ℕ, _*_, _%_, _^_, _<_, _≤_}
+use Prim.Native.Nat.{ℕ, _^_, _≤_}
 use mathlib.Core.Path.{_≡_, refl}
 use mathlib.Core.Bool.{true, false}
 use mathlib.Core.List.{List}

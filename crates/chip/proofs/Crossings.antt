@@ -6,10 +6,10 @@ use mathlib.Core.List.{List}
 use native.Mathlib.Omega.{arith}
 use native.Mathlib.Nat.{div-add-mod', mod-lt, div-lt-iff-lt-mul, le-trans, le-of-eq, suc-mul, add-mul, one-mul, mul-le-mul-right, mul-mod-left, lt-of-mul-lt-mul-right}
 use lib.Arith.{digits-lt}
-use lib.ListN.{length, getD}
+use lib.ListN.{getD}
 use Rattle.paper.specs.Written.{Filled}
 use Rattle.paper.proofs.Fills.{lt-or-ge}
-use Rattle.chip.specs.Chip.{crossed, crossedIn, crossedByte}
+use Rattle.chip.specs.Chip.{crossedIn, crossedByte}
 use Rattle.chip.specs.Crossing.{Crossed, Crossing}
 use Rattle.chip.proofs.Places.{exchanged, in-bank}
 

@@ -1,6 +1,6 @@
 -- The bytes after one crossing and after two: each byte by its address, and doing it twice gives the bytes back.
-use Prim.Native.Nat.{ℕ, _*_, _%_, _/_, _^_, _<_, _≤_}
-use mathlib.Core.Path.{_≡_, refl, sym, ap, _∙_}
+use Prim.Native.Nat.{ℕ, _*_, _/_, _^_, _<_}
+use mathlib.Core.Path.{_≡_, sym, ap, _∙_}
 use mathlib.Core.Bool.{true}
 use mathlib.Core.List.{List}
 use native.Mathlib.Omega.{arith}

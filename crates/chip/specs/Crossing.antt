@@ -9,13 +9,13 @@ use lib.ListN.{length, getD}
 abbrev pub Crossed : ℕ → ℕ → ℕ → ℕ → Type 0
 Crossed column row r c = (c < column) ⊎ ((c < column + 64) × (r < row))
 
--- new is old where the bank of s rows at `base` is crossed so far: g stands at each of its places that is; the places outside the bank are as they were
+-- new is old with the bank of s rows at `base` crossed so far: g stands at each place of the bank that is; the places outside it are as they were
 pub record Crossing (g : ℕ → ℕ) (base s column row : ℕ) (old new : List ℕ) : Type 0 where
   pub long : length new ≡ length old
   pub is : (r c : ℕ) → r < s → c < s → Crossed column row r c → getD new (base + (r * s + c)) 0 ≡ g (base + (r * s + c))
   pub before : (p : ℕ) → p < base → getD new p 0 ≡ getD old p 0
   pub after : (p : ℕ) → base + s * s ≤ p → getD new p 0 ≡ getD old p 0
 
--- whatever the room was when the bank was begun, columns that were to be crossed before are crossed up to a row after
+-- whatever the room was when the bank was begun: where the columns before these 64 are crossed, these are crossed too, up to a row
 abbrev pub Carries : (ℕ → ℕ) → ℕ → ℕ → ℕ → ℕ → List ℕ → List ℕ → Type 0
 Carries g base s column row before after = (old : List ℕ) → Crossing g base s column 0 old before → Crossing g base s column row old after

@@ -1,7 +1,7 @@
 // Images straight from the chips: an image from what was read off the chips, and back, bank by bank from one buffer into a second.
 use answer::Answer;
 ghost use mathlib.Core.Path.{_≡_};
-ghost use Prim.Native.Nat.{ℕ, _+_, _-_, _*_, _%_, _<_, _≤_};
+ghost use Prim.Native.Nat.{_+_, _-_, _*_, _%_, _<_, _≤_};
 ghost use lib.ListN.{length, getD};
 ghost use Rattle.paper.specs.Written.{Filled};
 ghost use Rattle.answer.specs.Told.{toldOf};

@@ -2,7 +2,7 @@
 -- lent byte. A success writes only the part that is named." That every input is taken is `all-fix` of Operations; that each call ends comes
 -- with the proof of its function.
 use Prim.Native.Nat.{ℕ, _^_, _≤_, _<_}
-use mathlib.Core.Path.{_≡_, refl, sym, ap, _∙_}
+use mathlib.Core.Path.{_≡_, refl, _∙_}
 use mathlib.Core.Bool.{Bool, true, false}
 use mathlib.Core.List.{List, _++_}
 use mathlib.Core.Logic.{_↔_}
@@ -15,7 +15,7 @@ use Rattle.paper.specs.Told.{Told, done}
 use Rattle.paper.specs.Order.{Check, firstOf, HoldsFirst, NoneHolds, areRefusals}
 use Rattle.paper.specs.Written.{written}
 use Rattle.paper.proofs.Orders.{given-when, done-when}
-use Rattle.paper.proofs.Fills.{written-fills, length-written}
+use Rattle.paper.proofs.Fills.{written-fills}
 use Rattle.answer.specs.declared.Answer.{Answer}
 use Rattle.answer.specs.Told.{toldOf}
 use Rattle.settings.specs.declared.Look.{Look}

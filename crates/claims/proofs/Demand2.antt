@@ -15,7 +15,6 @@ use lib.Arith.{digits-div, digits-mod}
 use lib.Dec.{ltb}
 use lib.ListN.{length, getD}
 use Rattle.paper.specs.Told.{Told, told, done}
-use Rattle.paper.specs.Written.{written}
 use Rattle.paper.specs.Choose.{choose}
 use Rattle.paper.specs.Order.{firstOf}
 use Rattle.paper.proofs.Orders.{done-says}
@@ -31,15 +30,14 @@ use Rattle.control.specs.Control.{played, wordAfter, playOrder, playTold}
 use Rattle.control.proofs.Plays.{played-more}
 use Rattle.strip.specs.Fetch.{placeOf, fetchPlace, fetchedByte, fetchOrder, fetchTold, stripAfter}
 use Rattle.strip.proofs.Windows.{strip-byte}
-use Rattle.strip.proofs.Fetches.{strip-done, strip-same-length}
+use Rattle.strip.proofs.Fetches.{strip-same-length}
 use Rattle.pixel.specs.Picture.{picture}
 use Rattle.frame.specs.Draw.{drawOrder, drawTold}
 use Rattle.frame.proofs.Draws.{accepted, frame-done}
 use Rattle.screen.specs.Show.{showOrder, showTold}
 use Rattle.screen.proofs.Shows.{fetch-done, draw-done, shown-done}
-use Rattle.back.specs.Read.{readByte}
 use Rattle.back.specs.Stray.{firstStray}
-use Rattle.back.specs.Back.{lengthOrder, strayOrder, backTold}
+use Rattle.back.specs.Back.{lengthOrder, strayOrder}
 use Rattle.back.proofs.Backs.{back-accepted, told-passed, strip-done as back-done}
 use Rattle.back.proofs.RoundTrip.{Bytes, Draws as DrawnBy, written-reads, drawn-read, no-strip}
 use Rattle.back.proofs.Trips.{drawn-is-read, read-as-drawn, read-is-drawn, drawn-as-read}

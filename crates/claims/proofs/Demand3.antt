@@ -2,7 +2,7 @@
 -- differ at a fetched place, each fetch of it differs in the strip and, in graphics, in its pixels, and nothing else does."
 -- Stated once over all settings, of any two calls that the contract of `show` allows, with the same settings, font and buffers.
 use Prim.Native.Nat.{ℕ, _<_, _≤_}
-use mathlib.Core.Path.{_≡_, refl, sym, ap, _∙_}
+use mathlib.Core.Path.{_≡_, sym, ap, _∙_}
 use mathlib.Core.Bool.{true}
 use mathlib.Core.List.{List}
 use mathlib.Core.Logic.{_↔_}
@@ -10,18 +10,16 @@ use contract.Lifetimes.{Lfts}
 use denote.Ref.{now}
 use lib.ListN.{length, getD}
 use Rattle.answer.specs.declared.Answer.{Answer}
-use Rattle.answer.specs.Told.{toldOf}
 use Rattle.answer.proofs.Answers.{one-answer}
 use Rattle.settings.specs.declared.Settings.{Settings}
 use Rattle.settings.specs.Fields.{graphics}
 use Rattle.settings.specs.Refusals.{stripLength, frameLength}
-use Rattle.strip.specs.Fetch.{fetchPlace, Fetched, stripAfter, fetchedByte}
+use Rattle.strip.specs.Fetch.{fetchPlace, Fetched, stripAfter}
 use Rattle.strip.proofs.Windows.{same-strip}
 use Rattle.pixel.specs.Picture.{owner, picture}
 use Rattle.pixel.proofs.Owners.{owner-below, depends}
 use Rattle.pixel.proofs.Shows.{shows}
-use Rattle.frame.specs.Draw.{frameAfter}
-use Rattle.screen.specs.Show.{showTold, shown}
+use Rattle.screen.specs.Show.{shown}
 use Rattle.claims.proofs.Calls.{Lent, Fetches, Shows}
 use Rattle.claims.proofs.Demand1.{show-demand}
 use Rattle.claims.proofs.Demand2.{Done, shown-byte, shown-pixel}

@@ -11,7 +11,6 @@ use lib.ListN.{length, getD}
 use Rattle.paper.specs.Told.{Told}
 use Rattle.paper.specs.Order.{NoneHolds}
 use Rattle.answer.specs.declared.Answer.{Answer}
-use Rattle.answer.specs.Told.{toldOf}
 use Rattle.settings.specs.declared.Look.{Look}
 use Rattle.settings.specs.declared.Settings.{Settings}
 use Rattle.settings.specs.Fields.{graphics}

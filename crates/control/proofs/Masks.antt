@@ -1,5 +1,5 @@
 -- What setting and clearing by a mask does to a word.
-use Prim.Native.Nat.{ℕ, zero, suc, _+_, _-_, _*_, _/_, _%_, _^_, _<_, min, max}
+use Prim.Native.Nat.{ℕ, zero, suc, _+_, _-_, _*_, _/_, _%_, _^_, _<_, min}
 use mathlib.Core.Path.{_≡_, sym, ap, ap₂, _∙_}
 use native.Mathlib.Nat.{add-zero, add-mul, one-mul, mod-lt, mod-eq-of-lt, max-eq-right, min-zero, pow-suc, zero-lt-suc, div-lt-iff-lt-mul}
 use native.Mathlib.Omega.{arith}

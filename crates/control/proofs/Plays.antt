@@ -1,6 +1,6 @@
 -- A turn of `play`: what the whole list comes to is what the rest comes to from here.
 use Prim.Native.Nat.{ℕ, suc, _+_, _-_, _/_, _%_, _^_, _≤_, _<_}
-use mathlib.Core.Path.{_≡_, refl, sym, ap, _∙_}
+use mathlib.Core.Path.{_≡_, refl, ap, _∙_}
 use mathlib.Core.Bool.{Bool, true, false}
 use mathlib.Core.List.{List, [], _∷_, _++_}
 use native.Mathlib.Nat.{add-zero}
@@ -10,7 +10,7 @@ use borrow.Author.Tests.{lt-ltb, le-ltb, ltb-false}
 use lib.ListN.{length, drop, getD, drop-of-length-le}
 use lib.Seq.{drop-cons}
 use Rattle.paper.specs.Choose.{choose}
-use Rattle.paper.specs.Told.{Told, told, done}
+use Rattle.paper.specs.Told.{told, done}
 use Rattle.paper.proofs.Choices.{of-both}
 use Rattle.paper.proofs.Orders.{done-when, done-says}
 use Rattle.control.specs.Control.{withBit, isControl, wordAfter, played, firstElsewhere, playOrder, playTold}

@@ -1,5 +1,5 @@
 -- Every public operation of `control`: its contract, as the source has it, takes every input and allows one outcome.
-use mathlib.Core.Path.{_≡_, refl, sym, _∙_}
+use mathlib.Core.Path.{refl}
 use base.Logic.{emp, id⊢}
 use Rattle.paper.specs.Fixes.{Operation, Fixes, whole, one-tells}
 use Rattle.answer.proofs.Answers.{one-answer}

@@ -1,22 +1,20 @@
 -- A line is made of aligned runs of 16 bytes: inside a run the address goes on by wrap alone, and at its end B0-B3 pass 15.
-use Prim.Native.Nat.{ℕ, zero, suc, _+_, _-_, _*_, _/_, _%_, _^_, _≤_, _<_}
-use mathlib.Core.Path.{_≡_, refl, sym, ap, _∙_}
+use Prim.Native.Nat.{ℕ, zero, suc, _+_, _-_, _*_, _/_, _%_, _^_, _<_}
+use mathlib.Core.Path.{_≡_, sym, ap, _∙_}
 use mathlib.Core.Logic.{⊎-elim}
 use native.Mathlib.Nat.{add-zero}
 use native.Mathlib.Omega.{arith}
 use lib.Dec.{eqb, ltb}
 use borrow.Author.Tests.{eq-eqb, ne-eqb}
-use Rattle.paper.specs.Choose.{choose}
 use Rattle.paper.proofs.Choices.{of-both}
 use Rattle.settings.specs.declared.Settings.{Settings}
-use Rattle.settings.specs.Fields.{offset}
 use Rattle.settings.specs.Modes.{width}
 use Rattle.settings.proofs.Widths.{width-cases}
 use Rattle.counter.specs.declared.Counter.{Counter}
-use Rattle.counter.specs.Counter.{divX, divY, kept, wrap, counter, run, carry, advance, clear, bytesOn, start, lineStart}
+use Rattle.counter.specs.Counter.{divX, divY, wrap, counter, run, carry, advance, clear, bytesOn, start, lineStart}
 use Rattle.counter.proofs.Wraps.{wrap-wrap, wrap-small, wrap-lt}
 use Rattle.counter.proofs.Tables.{by-kept, cleared-le}
-use Rattle.counter.proofs.Walks.{bytesOn-more, bytesOn-on, lineStart-more}
+use Rattle.counter.proofs.Walks.{bytesOn-on}
 
 -- a 16-bit address whose B0-B3 are 0
 pub record Aligned (c : Counter) : Type 0 where

@@ -1,16 +1,16 @@
 -- The counter does not feel where the window starts: a start elsewhere, in steps of 512, shifts every address by wrap.
-use Prim.Native.Nat.{ℕ, zero, suc, _+_, _-_, _*_, _/_, _%_, _^_, _≤_, _<_}
+use Prim.Native.Nat.{ℕ, zero, suc, _+_, _-_, _*_, _/_, _%_, _^_, _<_}
 use mathlib.Core.Path.{_≡_, refl, sym, ap, _∙_}
 use native.Mathlib.Nat.{mod-add-mod, mod-eq-of-lt}
 use native.Mathlib.Omega.{arith}
-use borrow.Author.Tests.{eqb-true, eqb-false}
+use borrow.Author.Tests.{eqb-false}
 use lib.Dec.{eqb, ltb}
 use Rattle.paper.proofs.Choices.{by-test}
 use Rattle.settings.specs.declared.Settings.{Settings}
 use Rattle.settings.specs.Fields.{videoMode, offset}
 use Rattle.settings.specs.Modes.{width}
 use Rattle.counter.specs.declared.Counter.{Counter}
-use Rattle.counter.specs.Counter.{divX, divY, kept, wrap, counter, run, carry, advance, clear, bytesOn, start, lineStart, addressOf}
+use Rattle.counter.specs.Counter.{divX, divY, wrap, counter, run, carry, advance, clear, bytesOn, start, lineStart, addressOf}
 use Rattle.counter.proofs.Tables.{by-kept}
 
 -- the counter with its address 512 k further on

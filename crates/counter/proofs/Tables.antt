@@ -9,7 +9,7 @@ use native.Mathlib.Nat.{mod-lt, mod-eq-of-lt}
 use lib.Dec.{T, lit<, eqb, leb, eqb→eq, leb→le}
 use lib.ListN.{getD}
 use types.Run.{OneOf, hit}
-use Rattle.paper.proofs.Tables.{every, entry}
+use Rattle.paper.proofs.Tables.{entry}
 use Rattle.settings.specs.declared.Settings.{Settings}
 use Rattle.settings.specs.Fields.{videoMode}
 use Rattle.counter.specs.Counter.{timesX, timesY, keptFrom, divX, divY, kept}

@@ -1,20 +1,16 @@
 -- Laws of a walk of the counter: byte by byte within a line, and line by line.
 use Prim.Native.Nat.{ℕ, zero, suc, _+_}
-use mathlib.Core.Path.{_≡_, refl, sym, ap, _∙_}
+use mathlib.Core.Path.{_≡_, refl, ap, _∙_}
 use native.Mathlib.Nat.{add-zero, add-suc}
 use native.Mathlib.Numerals.{add-one}
 use Rattle.settings.specs.declared.Settings.{Settings}
 use Rattle.settings.specs.Modes.{width}
 use Rattle.counter.specs.declared.Counter.{Counter}
-use Rattle.counter.specs.Counter.{advance, clear, bytesOn, start, lineStart, addressOf}
+use Rattle.counter.specs.Counter.{advance, clear, bytesOn, start, lineStart}
 
 pub bytesOn-none : (s : Settings) (c : Counter) → bytesOn s 0 c ≡ c
 unfolding bytesOn
 bytesOn-none s c = refl
-
-pub bytesOn-more : (s : Settings) (n : ℕ) (c : Counter) → bytesOn s (n + 1) c ≡ advance s (bytesOn s n c)
-unfolding bytesOn
-bytesOn-more s n c = rw add-one
 
 -- m bytes, and n more
 pub bytesOn-on : (s : Settings) (m n : ℕ) (c : Counter) → bytesOn s (m + n) c ≡ bytesOn s n (bytesOn s m c)

@@ -1,7 +1,6 @@
 -- Laws of the 16-bit address that comes round.
-use Prim.Native.Nat.{ℕ, _+_, _-_, _*_, _/_, _%_, _^_, _<_}
-use mathlib.Core.Path.{_≡_, _∙_, sym}
-use native.Mathlib.Omega.{arith}
+use Prim.Native.Nat.{ℕ, _+_, _-_, _^_, _<_}
+use mathlib.Core.Path.{_≡_, _∙_}
 use native.Mathlib.Nat.{mod-add-mod, mod-eq-of-lt, add-assoc, mod-lt}
 use lib.Dec.{lit<}
 use Rattle.counter.specs.Counter.{wrap}

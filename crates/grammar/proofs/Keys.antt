@@ -1,16 +1,17 @@
 -- Keys that an annotation may have: every run of key bytes that is not too long begins one.
 use Prim.Native.Nat.{ℕ, _≤_, zero-le, suc-le-suc}
 use native.Mathlib.Omega.{arith}
-use mathlib.Core.Path.{_≡_, refl, sym, _∙_, ap, subst}
+use mathlib.Core.Path.{_≡_, refl, sym, subst}
 use mathlib.Core.Logic.{⊎-elim}
 use mathlib.Core.List.{List, [], _∷_, _++_, append-nil}
-use mathlib.Core.Bool.{Bool, true, false, _&&_, _||_}
+use mathlib.Core.Bool.{Bool, true, false, _||_}
 use borrow.Author.Tests.{eqb-true, not-false}
 use lib.Dec.{eqb}
 use lib.ListN.{length, length-append}
+use Rattle.paper.proofs.Choices.{either}
 use Rattle.text.specs.Combine.{All, closed}
-use Rattle.text.proofs.Tests.{clash, or-split, and-split}
-use Rattle.grammar.specs.Sheet.{keyByte, deedWord, pinsWord, writesWord, atWord, eq, same, free}
+use Rattle.text.proofs.Tests.{clash, and-split}
+use Rattle.grammar.specs.Sheet.{keyByte, deedWord, pinsWord, writesWord, atWord, same, free}
 
 same-eq : (k l : List ℕ) → same k l ≡ true → k ≡ l
 same-eq [] [] h = refl
@@ -36,9 +37,9 @@ taken u f =
     (λ (h : (same u writesWord || same u atWord) ≡ true).
     ⊎-elim (λ (h : same u writesWord ≡ true). at writesWord h (hyphen writesWord (refl, (refl, (refl, (refl, (refl, (refl, (refl, tt))))))) (omega arith) refl))
     (λ (h : same u atWord ≡ true). at atWord h (hyphen atWord (refl, (refl, (refl, tt))) (omega arith) refl))
-    (or-split (same u writesWord) _ h))
-    (or-split (same u pinsWord) _ h))
-    (or-split (same u deedWord) _ (not-false _ f))
+    (either (same u writesWord) _ h))
+    (either (same u pinsWord) _ h))
+    (either (same u deedWord) _ (not-false _ f))
   where
     at : (w : List ℕ) → same u w ≡ true → Filled w → Filled u
     at w h f = subst Filled (sym (same-eq u w h)) f

@@ -11,13 +11,13 @@ use borrow.Author.Tests.{lt-ltb, le-ltb}
 use lib.ListN.{length, take, drop, length-append, length-drop}
 use lib.Seq.{drop-append-seam, drop-drop, take-at}
 use Rattle.text.specs.Code.{Reading, got, stuck}
-use Rattle.text.specs.Combine.{mapped, AllValid, texts}
+use Rattle.text.specs.Combine.{AllValid, texts}
 use Rattle.text.proofs.Tests.{clash}
 use Rattle.text.proofs.Lists.{le-or-lt}
 use Rattle.text.proofs.Back.{back-any}
 use Rattle.grammar.specs.Sheet.{deedWord, eq, nl, pinsLine, writesLine, atLine, Annotation, line, annotationLine, Fields, ValidSheet, front, lines, render}
-use Rattle.grammar.specs.Read.{readAnnotation, Front, toFields, readSheet}
-use Rattle.grammar.specs.Given.{isGot, toldRead, noFields, fieldsRead, accepted, fieldsIn, padded, deedFrom, tailFrom, annotationFrom, lineAt}
+use Rattle.grammar.specs.Read.{readAnnotation, readSheet}
+use Rattle.grammar.specs.Given.{isGot, fieldsRead, accepted, fieldsIn, deedFrom, tailFrom, annotationFrom, lineAt}
 use Rattle.grammar.proofs.Grammar.{accepted-fields, annotation-right, annotation-prefix}
 
 -- ---- an accepted sheet is the bytes of its fields

@@ -9,9 +9,8 @@ use borrow.Author.Tests.{eq-eqb, ne-eqb}
 use lib.ListN.{length, drop, getD, drop-of-length-le}
 use lib.Seq.{drop-cons}
 use Rattle.paper.specs.Choose.{choose}
-use Rattle.text.specs.Code.{Code, Reading, got, stuck, Right}
+use Rattle.text.specs.Code.{Reading, got, stuck}
 use Rattle.text.specs.Combine.{mapped, bump, shift, common, second, readLed}
-use Rattle.text.proofs.Back.{got-within}
 use Rattle.text.proofs.Tests.{clash}
 use Rattle.grammar.specs.Read.{digit, more, closing, readSecond, readNumber}
 use Rattle.outline.specs.Steps.{countedOf}
@@ -30,10 +29,6 @@ module _ {X : Type 0} (f : X → ℕ) where
   pub counted-stuck : (o : Reading X) (r : Counted) → r ≡ countedOf f o → r .whole ≡ false → o ≡ stuck (r .size)
   counted-stuck (stuck n) r e h = ap stuck (sym (ap (λ (x : Counted). x .size) e))
   counted-stuck (got v n) r e h = absurd (clash (ap (λ (x : Counted). x .whole) e) h)
-
-  pub counted-within : (R : List ℕ → Type 0) (C : Code X) (s : List ℕ) (o : Reading X) → Right R C s o → countedOf f o .size ≤ length s
-  counted-within R C s (got v n) g = got-within R C s v n g
-  counted-within R C s (stuck n) h = h .longest .within
 
 abbrev self : ℕ → ℕ
 self n = n

@@ -11,9 +11,8 @@ use lib.Dec.{eqb, eqb·suc-suc, eqb·zero-suc}
 use lib.ListN.{length, take, drop, getD, length-drop}
 use lib.Seq.{getD-drop, length-take-le, drop-drop}
 use Rattle.paper.specs.Choose.{choose}
-use Rattle.text.specs.Code.{Code, Reading, got, stuck, Right}
+use Rattle.text.specs.Code.{Reading, got, stuck}
 use Rattle.text.specs.Combine.{mapped, shift, common, span, readClosedAt, readClosed, second, readLed}
-use Rattle.text.proofs.Back.{got-within}
 use Rattle.text.proofs.Tests.{clash}
 use Rattle.grammar.specs.Sheet.{same}
 use Rattle.outline.specs.Steps.{stepOf}
@@ -39,11 +38,6 @@ module _ {X : Type 0} where
   pub step-shift : {Y : Type 0} (v : Y) (n : ℕ) (o : Reading X) → step (stepOf o .whole) (n + stepOf o .size) ≡ stepOf (shift v n o)
   step-shift v n (got w m) = refl
   step-shift v n (stuck m) = refl
-
-  -- a right reading goes no further than the bytes
-  pub step-within : (R : List ℕ → Type 0) (C : Code X) (s : List ℕ) (o : Reading X) → Right R C s o → stepOf o .size ≤ length s
-  step-within R C s (got v n) g = got-within R C s v n g
-  step-within R C s (stuck n) h = h .longest .within
 
 -- ---- bytes of a class, closed by a byte, where n of the class stand
 module _ (p : ℕ → Bool) (lo hi e at : ℕ) (s : List ℕ) (n : ℕ) (q : n ≡ span p hi (drop at s)) where

@@ -1,6 +1,6 @@
 // One pass over a sheet where it lies: its fields, and the places of its deed and its annotation lines.
 ghost use mathlib.Core.Path.{_≡_};
-ghost use Prim.Native.Nat.{ℕ, _+_, _-_, _*_, _<_, _≤_};
+ghost use Prim.Native.Nat.{_+_, _-_, _*_, _<_, _≤_};
 ghost use mathlib.Core.Bool.{true, false};
 ghost use lib.ListN.{length, take, drop};
 ghost use Rattle.text.specs.Code.{stuck};

@@ -1,6 +1,7 @@
--- Laws of a choice by a test.
+-- Laws of tests, and of a choice by one.
 use mathlib.Core.Path.{_≡_, refl}
-use mathlib.Core.Bool.{Bool, true, false}
+use mathlib.Core.Bool.{Bool, true, false, _||_}
+use mathlib.Core.Logic.{_⊎_, inl, inr}
 use Rattle.paper.specs.Choose.{choose}
 
 -- what holds of both holds of the choice
@@ -12,3 +13,8 @@ of-both P false p q = q
 pub by-test : {P : Type 0} (b : Bool) → (b ≡ true → P) → (b ≡ false → P) → P
 by-test true f g = f refl
 by-test false f g = g refl
+
+-- one of two tests passes
+pub either : (a b : Bool) → a || b ≡ true → (a ≡ true) ⊎ (b ≡ true)
+either true b h = inl refl
+either false b h = inr h

@@ -1,6 +1,6 @@
 -- Laws of `Filled` and `written`: how a run of stores begins, grows and joins, and that it leaves one list only.
 use Prim.Native.Nat.{ℕ, zero, suc, _+_, _≤_, _<_}
-use mathlib.Core.Path.{_≡_, refl, sym, ap, _∙_}
+use mathlib.Core.Path.{_≡_, refl, sym, _∙_}
 use mathlib.Core.List.{List}
 use mathlib.Core.Logic.{_⊎_, inl, inr, ⊎-elim}
 use native.Mathlib.Omega.{arith}
@@ -68,10 +68,6 @@ one {g} {a} {n} {x} {y} {z} f h =
     ⊎-elim (λ l. f .before k l ∙ sym (h .before k l))
     (λ l. ⊎-elim (λ m. f .is k l m ∙ sym (h .is k l m)) (λ m. f .after k m ∙ sym (h .after k m)) (lt-or-ge k n))
     (lt-or-ge k a))
-
--- a run with nothing in it leaves the list as it was
-pub still : {g : ℕ → ℕ} {a : ℕ} {x y : List ℕ} → Filled g a a x y → y ≡ x
-still {g} {a} {x} f = one f (none g a x)
 
 pub length-written : (g : ℕ → ℕ) (n : ℕ) (old : List ℕ) → length (written g n old) ≡ length old
 unfolding written

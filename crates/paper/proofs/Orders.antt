@@ -1,6 +1,6 @@
 -- The law of an order of refusals: each number exactly when its condition holds and none earlier does, and done exactly when none does.
 use Prim.Native.Nat.{ℕ, _<_}
-use mathlib.Core.Path.{_≡_, refl, sym, ap, _∙_}
+use mathlib.Core.Path.{_≡_, refl, _∙_}
 use mathlib.Core.Bool.{Bool, true, false, _&&_}
 use mathlib.Core.List.{List, [], _∷_, _++_}
 use mathlib.Core.Logic.{_⊎_, inl, inr, ⊎-elim, _↔_}
@@ -9,7 +9,7 @@ use borrow.Author.Tests.{ne-eqb}
 use lib.Dec.{T, eqb, ltb, ltb→lt}
 use Rattle.paper.specs.Choose.{choose}
 use Rattle.paper.specs.Told.{Told}
-use Rattle.paper.specs.Order.{Check, check, firstOf, NoneHolds, HoldsFirst, areRefusals}
+use Rattle.paper.specs.Order.{Check, firstOf, NoneHolds, HoldsFirst, areRefusals}
 
 -- both halves of a test that passes
 pub both : (a b : Bool) → T (a && b) → T a × T b

@@ -2,10 +2,10 @@
 use Prim.Native.Nat.{ℕ, _+_, _*_, _/_, _%_, _<_}
 use mathlib.Core.Path.{_≡_}
 use mathlib.Core.List.{List, [], _∷_}
-use lib.Dec.{T, eqb, ltb, eqb→eq}
+use lib.Dec.{eqb, ltb, eqb→eq}
 use lib.ListN.{getD}
 use Rattle.paper.specs.Choose.{choose}
-use Rattle.paper.proofs.Tables.{everyBelow, each-below}
+use Rattle.paper.proofs.Tables.{each-below}
 use Rattle.settings.specs.declared.Look.{Look}
 use Rattle.settings.specs.Modes.{border}
 

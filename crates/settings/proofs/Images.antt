@@ -1,15 +1,12 @@
 -- The lengths of an image are five powers of two.
 use Prim.Native.Nat.{ℕ}
-use mathlib.Core.Path.{_≡_, refl}
-use mathlib.Core.Bool.{Bool, true, false, _||_}
-use mathlib.Core.Logic.{_⊎_, inl, inr, ⊎-elim}
+use mathlib.Core.Path.{_≡_}
+use mathlib.Core.Bool.{Bool, true, _||_}
+use mathlib.Core.Logic.{⊎-elim}
 use lib.Dec.{eqb}
 use borrow.Author.Tests.{eqb-true}
+use Rattle.paper.proofs.Choices.{either}
 use Rattle.settings.specs.Refusals.{imageFits}
-
-either : (a b : Bool) → a || b ≡ true → (a ≡ true) ⊎ (b ≡ true)
-either true b e = inl refl
-either false b e = inr e
 
 -- a fact about an image's length, by the five cases
 pub by-image : (P : ℕ → Type 0) → P 4096 → P 8192 → P 16384 → P 32768 → P 65536 → (n : ℕ) → imageFits n ≡ true → P n

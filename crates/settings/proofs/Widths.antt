@@ -8,7 +8,7 @@ use native.Mathlib.Nat.{mod-lt}
 use lib.Dec.{T, eqb, eqb→eq, lit<}
 use lib.ListN.{getD}
 use Rattle.paper.specs.Choose.{choose}
-use Rattle.paper.proofs.Tables.{every, entry}
+use Rattle.paper.proofs.Tables.{entry}
 use Rattle.settings.specs.declared.Look.{Look}
 use Rattle.settings.specs.Fields.{graphics, gm}
 use Rattle.settings.specs.Modes.{width, widths}

@@ -1,6 +1,6 @@
 -- What the pins say of a frame: document 01's table by GM2-0, in its order, and its rules for the border and the font.
 use Prim.Native.Nat.{ℕ, _+_, _*_, _%_}
-use mathlib.Core.Bool.{Bool, _||_}
+use mathlib.Core.Bool.{_||_}
 use mathlib.Core.List.{List, [], _∷_, _++_}
 use lib.Dec.{eqb}
 use lib.ListN.{length, take, getD, replicate}

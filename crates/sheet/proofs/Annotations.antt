@@ -16,7 +16,7 @@ use Rattle.text.specs.Code.{Reading, got, stuck, Longest}
 use Rattle.text.proofs.Lists.{le-or-lt}
 use Rattle.grammar.specs.Sheet.{nl, Annotation, line, Fields, ValidSheet, front, lines, render, sheets, eq}
 use Rattle.grammar.specs.Read.{readSheet}
-use Rattle.grammar.specs.Given.{isGot, toldRead, fieldsRead, accepted, fieldsIn, tailFrom, annotationFrom, lineAt}
+use Rattle.grammar.specs.Given.{isGot, toldRead, accepted, fieldsIn, tailFrom, annotationFrom, lineAt}
 use Rattle.sheet.specs.declared.Sheet.{Sheet}
 use Rattle.grammar.proofs.Grammar.{refused-at}
 use Rattle.grammar.proofs.Parts.{accepted-render, some-accepted, tail-rest, deed-bytes, line-in, line-from, none-from}

@@ -1,5 +1,5 @@
 -- Laws of lines and frames: a line is its runs, and a frame its lines.
-use Prim.Native.Nat.{ℕ, _+_, _-_, _*_, _/_, _%_, _^_, _<_, _≤_}
+use Prim.Native.Nat.{ℕ, _+_, _-_, _*_, _/_, _<_, _≤_}
 use mathlib.Core.Path.{_≡_, sym, ap, _∙_}
 use mathlib.Core.Bool.{true}
 use mathlib.Core.List.{List}
@@ -14,9 +14,9 @@ use Rattle.paper.proofs.Fills.{by, join, upto}
 use Rattle.settings.specs.declared.Settings.{Settings}
 use Rattle.settings.specs.Modes.{width}
 use Rattle.settings.specs.Refusals.{imageFits}
-use Rattle.settings.proofs.Widths.{width-cases, width-pos}
+use Rattle.settings.proofs.Widths.{width-cases}
 use Rattle.counter.specs.declared.Counter.{Counter}
-use Rattle.counter.specs.Counter.{wrap, carry, clear, bytesOn, lineStart, addressOf}
+use Rattle.counter.specs.Counter.{carry, clear, bytesOn, lineStart, addressOf}
 use Rattle.counter.proofs.Walks.{bytesOn-on, lineStart-more}
 use Rattle.counter.proofs.Runs.{Aligned, in-run, run-end, runs-aligned}
 use Rattle.strip.specs.Fetch.{imagePlace, byteOn, fetchPlace, fetchedByte}

@@ -1,12 +1,11 @@
 -- Only the window is felt: what two images have to do with each other's strips.
-use Prim.Native.Nat.{ℕ, _*_, _/_, _%_, _<_}
+use Prim.Native.Nat.{ℕ, _/_, _%_, _<_}
 use mathlib.Core.Path.{_≡_, refl, sym, ap, _∙_}
 use mathlib.Core.Logic.{_↔_}
 use mathlib.Core.List.{List}
 use native.Mathlib.Nat.{mod-lt, div-lt-iff-lt-mul}
 use native.Mathlib.Omega.{arith}
 use lib.ListN.{length, getD}
-use Rattle.paper.specs.Choose.{choose}
 use Rattle.paper.specs.Written.{written}
 use Rattle.paper.proofs.Fills.{written-by, written-fills}
 use Rattle.settings.specs.declared.Settings.{Settings}

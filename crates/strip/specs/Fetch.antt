@@ -1,5 +1,5 @@
 -- Fetching: what it answers, and every byte of the strip afterwards (document 01, "Which bytes are fetched").
-use Prim.Native.Nat.{ℕ, _*_, _/_, _%_, _<_}
+use Prim.Native.Nat.{ℕ, _/_, _%_, _<_}
 use mathlib.Core.Path.{_≡_}
 use mathlib.Core.List.{List, [], _∷_}
 use lib.Dec.{eqb}

@@ -10,11 +10,12 @@ use borrow.Author.Tests.{lt-ltb, le-ltb}
 use lib.Arith.{digits-lt, digits-div, digits-mod}
 use lib.ListN.{length, drop, getD, drop-of-length-le}
 use lib.Seq.{drop-cons}
+use Rattle.paper.proofs.Choices.{either}
 use Rattle.text.specs.Code.{Any, Right, Prefix}
 use Rattle.text.specs.Combine.{All, closed, readClosed}
 use Rattle.text.specs.Hex.{between, hexByte, hexDigit, unhex, hex, hexCode, hexFrom, hexValue, readHex}
 use Rattle.text.proofs.Lists.{le-or-lt}
-use Rattle.text.proofs.Tests.{or-split, or-left, or-right, between-of, between-le}
+use Rattle.text.proofs.Tests.{or-left, or-right, between-of, between-le}
 use Rattle.text.proofs.Renamed.{Same, same-right, same-prefix}
 use Rattle.text.proofs.Runs.{closed-right, closed-prefix}
 
@@ -28,7 +29,7 @@ hex-byte b h =
     (λ (k : between 65 70 b ≡ true).
     let l = between-le 65 70 b k in
     rw (le-ltb b 58 (omega arith)) (omega arith, rw (le-ltb (b - 55) 10 (omega arith)) (omega arith)))
-    (or-split (between 48 57 b) (between 65 70 b) h)
+    (either (between 48 57 b) (between 65 70 b) h)
 
 pub hex-digit : (n : ℕ) → n < 16 → (hexByte (hexDigit n) ≡ true) × (unhex (hexDigit n) ≡ n)
 hex-digit n h =
@@ -45,7 +46,7 @@ lowest b h =
     ⊎-elim
     (λ (k : between 48 57 b ≡ true). between-le 48 57 b k .0)
     (λ (k : between 65 70 b ≡ true). let l = between-le 65 70 b k in omega arith)
-    (or-split (between 48 57 b) (between 65 70 b) h)
+    (either (between 48 57 b) (between 65 70 b) h)
 
 -- ---- n digits
 pow-pos : (n : ℕ) → 0 < 16 ^ n

@@ -1,7 +1,6 @@
 -- Laws of computed tests.
 use Prim.Native.Nat.{ℕ, suc, _≤_}
 use mathlib.Core.Path.{_≡_, refl, sym, _∙_}
-use mathlib.Core.Logic.{_⊎_, inl, inr}
 use mathlib.Core.Bool.{Bool, true, false, _&&_, _||_, true≢false}
 use lib.Dec.{leb}
 use borrow.Author.Tests.{leb-true, le-leb}
@@ -13,10 +12,6 @@ use Rattle.text.specs.Hex.{between}
 -- no test both passes and fails
 pub clash : {t : Bool} → t ≡ true → t ≡ false → ⊥
 clash h k = true≢false (sym h ∙ k)
-
-pub or-split : (a b : Bool) → a || b ≡ true → (a ≡ true) ⊎ (b ≡ true)
-or-split true b h = inl refl
-or-split false b h = inr h
 
 pub and-split : (a b : Bool) → a && b ≡ true → (a ≡ true) × (b ≡ true)
 and-split true b h = (refl, h)

@@ -1,16 +1,14 @@
 -- What lies past the longest sheet and one byte more cannot change a report.
-use Prim.Native.Nat.{ℕ, _+_, _≤_, _<_}
-use mathlib.Core.Path.{_≡_, refl, sym, ap, _∙_}
-use mathlib.Core.Bool.{true}
-use mathlib.Core.List.{List, _++_}
+use Prim.Native.Nat.{ℕ, _≤_, _<_}
+use mathlib.Core.Path.{_≡_, refl, sym, ap}
+use mathlib.Core.List.{List}
 use mathlib.Core.Logic.{⊎-elim}
-use native.Mathlib.Nat.{min-eq-left}
 use native.Mathlib.Omega.{arith}
-use lib.ListN.{length, take, length-append, length-take}
+use lib.ListN.{length, take, length-append}
 use lib.Seq.{take-all, take-take, length-take-le}
 use Rattle.paper.proofs.Fills.{lt-or-ge}
 use Rattle.text.specs.Code.{Reading, got, stuck, Begins, Longest}
-use Rattle.grammar.specs.Sheet.{Fields, ValidSheet, render, sheets}
+use Rattle.grammar.specs.Sheet.{Fields, render, sheets}
 use Rattle.grammar.specs.Read.{readSheet}
 use Rattle.grammar.specs.Given.{isGot}
 use Rattle.grammar.proofs.Grammar.{refused-at, read-back}

@@ -1,14 +1,13 @@
 -- Every report fits its place, and ends with the sheet's annotation lines where the sheet is whole.
 use Prim.Native.Nat.{ℕ, zero, suc, _+_, _/_, _≤_}
-use mathlib.Core.Path.{_≡_, refl, sym, ap, _∙_}
-use mathlib.Core.List.{List, [], _∷_, _++_, append-assoc}
+use mathlib.Core.Path.{_≡_, sym, ap, _∙_}
+use mathlib.Core.List.{List, _++_, append-assoc}
 use native.Mathlib.Omega.{arith}
 use lib.Dec.{ltb, eqb}
 use lib.ListN.{length, take, length-append}
 use borrow.Author.Tests.{eqb-true, eqb-false}
 use Rattle.paper.proofs.Choices.{of-both, by-test}
 use Rattle.settings.specs.declared.Settings.{Settings}
-use Rattle.settings.specs.Modes.{modeName}
 use Rattle.settings.proofs.Names.{name-small}
 use Rattle.grammar.specs.Sheet.{eq, nl, lines}
 use Rattle.grammar.specs.Given.{fieldsIn}

@@ -1,8 +1,8 @@
 -- Laws of what the report tells of a sheet, along its order 11, 10, 1, 2, 4.
 use Prim.Native.Nat.{ℕ, _-_, _≤_}
-use mathlib.Core.Path.{_≡_, refl, sym, ap, _∙_}
+use mathlib.Core.Path.{_≡_, refl}
 use mathlib.Core.Bool.{Bool, true, false, not}
-use mathlib.Core.List.{List, [], _∷_, _++_}
+use mathlib.Core.List.{List, _++_}
 use native.Mathlib.Omega.{arith}
 use borrow.Author.Tests.{eq-eqb, ne-eqb}
 use lib.Dec.{ltb}
@@ -15,7 +15,7 @@ use Rattle.control.specs.Control.{played, firstElsewhere, playTold}
 use Rattle.text.specs.Code.{Reading, got, stuck}
 use Rattle.grammar.specs.Sheet.{Fields}
 use Rattle.grammar.specs.Read.{readSheet}
-use Rattle.grammar.specs.Given.{isGot, toldRead, accepted, toldIn, fieldsIn, padded}
+use Rattle.grammar.specs.Given.{isGot, toldRead, toldIn, fieldsIn, padded}
 use Rattle.wording.specs.Report.{settingsIn, settingOrder, reportTold, statusLine, placeLine, deedLine, settingLines, annotated, reportOf}
 
 -- the sheet's own answer says whether it is accepted

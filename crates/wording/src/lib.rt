@@ -5,7 +5,7 @@ use settings::Settings;
 ghost use mathlib.Core.Path.{_≡_};
 ghost use Prim.Native.Nat.{_+_, _≤_, _<_};
 ghost use mathlib.Core.List.{[], _++_};
-ghost use lib.ListN.{length, take, drop};
+ghost use lib.ListN.{length, drop};
 ghost use Rattle.paper.specs.Told.{done};
 ghost use Rattle.paper.specs.Order.{firstOf};
 ghost use Rattle.answer.specs.Told.{toldOf};

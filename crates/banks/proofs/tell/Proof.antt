@@ -1,8 +1,8 @@
 -- `banks::tell` is safe and ends.
 use borrow.Author.Needs.{needs}
-use mathlib.Core.Path.{_≡_, refl, _∙_}
-use Prim.Native.Nat.{_-_, _≤_}
-use lib.ListN.{length, length-set}
+use mathlib.Core.Path.{_≡_}
+use Prim.Native.Nat.{_-_}
+use lib.ListN.{length}
 use Rattle.banks.proofs.tell.Statement.{statement}
 use Rattle.banks.proofs.tell.Tie as tie
 

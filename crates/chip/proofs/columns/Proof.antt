@@ -1,10 +1,8 @@
 -- `chip::columns` meets its contract.
 use Prim.Native.Nat.{ℕ, _+_, _-_, _*_, _<_, _≤_}
 use mathlib.Core.Path.{_≡_, refl, _∙_}
-use mathlib.Core.List.{List}
 use native.Mathlib.Omega.{arith}
 use native.Mathlib.Nat.{add-mul}
-use borrow.Author.Needs.{needs}
 use lib.Arith.{digits-lt}
 use lib.ListN.{length}
 use denote.Ref.{now}

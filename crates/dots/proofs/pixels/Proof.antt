@@ -1,7 +1,6 @@
 -- `dots::pixels` is safe and ends.
 use borrow.Author.Needs.{needs}
 use Prim.Native.Nat.{_-_, _≤_}
-use lib.ListN.{length}
 use Rattle.dots.proofs.pixels.Statement.{statement}
 use Rattle.dots.proofs.pixels.Tie as tie
 

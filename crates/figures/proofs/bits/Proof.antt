@@ -1,7 +1,6 @@
 -- `figures::bits` is safe and ends.
 use borrow.Author.Needs.{needs}
 use Prim.Native.Nat.{_-_, _≤_}
-use lib.ListN.{length}
 use Rattle.figures.proofs.bits.Statement.{statement}
 use Rattle.figures.proofs.bits.Tie as tie
 

@@ -1,6 +1,6 @@
 -- `figures::bytes_on` is safe and ends.
 use borrow.Author.Needs.{needs}
-use Prim.Native.Nat.{_-_, _≤_}
+use Prim.Native.Nat.{_-_}
 use Rattle.figures.proofs.bytes_on.Statement.{statement}
 use Rattle.figures.proofs.bytes_on.Tie as tie
 

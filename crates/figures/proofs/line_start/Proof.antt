@@ -1,6 +1,6 @@
 -- `figures::line_start` is safe and ends.
 use borrow.Author.Needs.{needs}
-use Prim.Native.Nat.{_-_, _≤_}
+use Prim.Native.Nat.{_-_}
 use Rattle.figures.proofs.line_start.Statement.{statement}
 use Rattle.figures.proofs.line_start.Tie as tie
 

@@ -1,6 +1,6 @@
 -- `figures::list` is safe and ends.
 use borrow.Author.Needs.{needs}
-use Prim.Native.Nat.{_-_, _≤_}
+use Prim.Native.Nat.{_-_}
 use lib.ListN.{length}
 use Rattle.figures.proofs.list.Statement.{statement}
 use Rattle.figures.proofs.list.Tie as tie

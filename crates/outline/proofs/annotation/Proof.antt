@@ -1,13 +1,13 @@
 -- `annotation`: where an annotation line lies, and its number of bytes.
 use Prim.Native.Nat.{ℕ, _+_, _-_, _<_}
 use native.Mathlib.Omega.{arith}
-use mathlib.Core.Path.{_≡_, refl, sym, _∙_, ap}
+use mathlib.Core.Path.{_≡_, sym, _∙_, ap}
 use borrow.Author.Needs.{needs}
 use lib.ListN.{length, take, drop}
 use denote.Ref.{now}
 use Rattle.grammar.specs.Sheet.{line, lines}
 use Rattle.grammar.specs.Read.{readAnnotation, readLines, readSheet}
-use Rattle.grammar.specs.Given.{fieldsIn, tailFrom, annotationFrom, lineAt}
+use Rattle.grammar.specs.Given.{fieldsIn, tailFrom}
 use Rattle.outline.specs.Steps.{stepOf}
 use Rattle.outline.specs.declared.Step.{Step}
 use Rattle.grammar.proofs.Parts.{LineIn, line-in, line-from, none-from, tail-at}

@@ -1,6 +1,5 @@
 -- `reports::bar` is safe and ends.
 use borrow.Author.Needs.{needs}
-use mathlib.Core.Path.{_≡_}
 use Prim.Native.Nat.{_-_, _≤_}
 use lib.ListN.{length}
 use Rattle.reports.proofs.bar.Statement.{statement}

@@ -1,7 +1,7 @@
 -- `wording::report` meets its contract.
-use Prim.Native.Nat.{ℕ, _≤_}
+use Prim.Native.Nat.{_≤_}
 use mathlib.Core.Path.{_≡_, sym, ap, _∙_}
-use mathlib.Core.List.{List, [], _++_, append-assoc}
+use mathlib.Core.List.{[], _++_, append-assoc}
 use native.Mathlib.Omega.{arith}
 use denote.Ref.{now}
 use contract.Lifetimes.{Lfts}

@@ -1,8 +1,6 @@
 -- `wording::settings_answer` meets its contract.
-use Prim.Native.Nat.{ℕ, _*_}
-use mathlib.Core.Path.{_≡_, refl, ap, _∙_}
+use mathlib.Core.Path.{_≡_, refl}
 use mathlib.Core.List.{[], _∷_}
-use native.Mathlib.Omega.{arith}
 use Rattle.paper.specs.Told.{done}
 use Rattle.paper.proofs.Orders.{checked}
 use Rattle.settings.specs.Refusals.{pinsAbove, externalText, fastRate}
