@@ -11,7 +11,7 @@ use Rattle.paper.specs.Written.{Filled}
 use Rattle.paper.proofs.Fills.{lt-or-ge}
 use Rattle.chip.specs.Chip.{crossedIn, crossedByte}
 use Rattle.chip.specs.Crossing.{Crossed, Crossing}
-use Rattle.chip.proofs.Places.{exchanged, in-bank}
+use Rattle.chip.proofs.Places.{whole-times, exchanged, in-bank}
 
 -- a row ends before the next begins
 pub rows-apart : {r r′ : ℕ} (s : ℕ) → r < r′ → r * s + s ≤ r′ * s
@@ -21,7 +21,7 @@ rows-apart {r} s h = le-trans (le-of-eq (sym (suc-mul r s))) (mul-le-mul-right s
 pub comes-from : (s base : ℕ) → 0 < s → base % (s * s) ≡ 0 → {r c : ℕ} → r < s → c < s → crossedIn s (base + (r * s + c)) ≡ base + (c * s + r)
 comes-from s base some e {r} {c} hr hc =
     let b = s * s in
-    let n : base ≡ base / b * b = omega (arith, div-add-mod' base b, e) in
+    let n = whole-times base b e in
     ap (λ (x : ℕ). crossedIn s (x + (r * s + c))) n ∙ in-bank s some (base / b) (digits-lt hr hc) ∙ ap (λ (x : ℕ). base / b * b + x) (exchanged s some r hc) ∙ ap (λ (x : ℕ). x + (c * s + r)) (sym n)
 
 module _ {g : ℕ → ℕ} {base s : ℕ} where
@@ -104,12 +104,12 @@ piece-right s base some e lent column row wide below k l m =
 -- ---- bank after bank
 module _ (b base : ℕ) (whole : base % b ≡ 0) where
   base-is : base ≡ base / b * b
-  base-is = omega (arith, div-add-mod' base b, whole)
+  base-is = whole-times base b whole
 
   -- a bank that begins before the end of whole banks ends no later
   pub bank-within : {n : ℕ} → n % b ≡ 0 → base < n → base + b ≤ n
   bank-within {n} e l =
-      let n-is : n ≡ n / b * b = omega (arith, div-add-mod' n b, e) in
+      let n-is = whole-times n b e in
       let q : base / b < n / b = lt-of-mul-lt-mul-right b (omega (arith, base-is, n-is, l)) in
       omega (arith, base-is, n-is, rows-apart b q)
 

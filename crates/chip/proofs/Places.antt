@@ -2,9 +2,14 @@
 use Prim.Native.Nat.{ℕ, _+_, _*_, _/_, _%_, _<_}
 use mathlib.Core.Path.{_≡_, refl, sym, ap, _∙_}
 use mathlib.Core.List.{[], _∷_, map}
+use native.Mathlib.Omega.{arith}
 use native.Mathlib.Nat.{div-add-mod', mod-lt, div-lt-iff-lt-mul, mul-pos}
 use lib.Arith.{digits-lt, digits-div, digits-mod}
 use Rattle.chip.specs.Chip.{crossed, crossedIn, chipPlace}
+
+-- what leaves no remainder is so many times the divisor
+pub whole-times : (n b : ℕ) → n % b ≡ 0 → n ≡ n / b * b
+whole-times n b e = omega (arith, div-add-mod' n b, e)
 
 module _ (s : ℕ) (some : 0 < s) where
   -- row and column are exchanged

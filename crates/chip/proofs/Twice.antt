@@ -4,12 +4,11 @@ use mathlib.Core.Path.{_≡_, sym, ap, _∙_}
 use mathlib.Core.Bool.{true}
 use mathlib.Core.List.{List}
 use native.Mathlib.Omega.{arith}
-use native.Mathlib.Nat.{div-add-mod'}
 use lib.ListN.{length, getD, take}
 use lib.Seq.{length-take-le, getD-take, ext-getD}
 use Rattle.paper.proofs.Fills.{written-fills, length-written}
 use Rattle.chip.specs.Chip.{chipFits, chipTold, chipAfter, chipPlace, crossedByte}
-use Rattle.chip.proofs.Places.{own-inverse, stays-in}
+use Rattle.chip.proofs.Places.{whole-times, own-inverse, stays-in}
 use Rattle.chip.proofs.Shapes.{shape}
 use Rattle.chip.proofs.Answers.{accepted, room-done}
 
@@ -18,7 +17,7 @@ pub keeps : (k n : ℕ) → chipFits k n ≡ true → (a : ℕ) → a < n → ch
 keeps k n h a l =
     let f = shape k n h in
     let b = 2 ^ k * 2 ^ k in
-    let e : n ≡ n / b * b = omega (arith, div-add-mod' n b, f .4) in
+    let e = whole-times n b (f .4) in
     rw (sym e) at (stays-in (2 ^ k) (f .2) (n / b) (rw e at l))
 
 pub inverse : (k n : ℕ) → chipFits k n ≡ true → (a : ℕ) → chipPlace k (chipPlace k a) ≡ a
