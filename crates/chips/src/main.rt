@@ -58,14 +58,30 @@ fn explain() {
     );
 }
 
-// Writes the bytes where the answer is Done, and else its number to standard error.
+// Says a refusal as a report does, on standard error.
+fn refuse(answer: Answer) {
+    io::write_all(STDERR_FILENO, b"status=");
+    io::print_decimal(STDERR_FILENO, answer::number(answer) as u64);
+    io::write_all(STDERR_FILENO, b"\nplace=");
+    io::print_decimal(STDERR_FILENO, answer::place(answer) as u64);
+    io::write_all(STDERR_FILENO, b"\n");
+}
+
+// Writes the bytes where the answer is Done, and else the refusal.
 fn finish(answer: Answer, bytes: &[u8]) {
     if let Answer::Done(_) = answer {
-        io::write_all(STDOUT_FILENO, bytes);
+        if !io::write_all(STDOUT_FILENO, bytes) {
+            io::write_all(STDERR_FILENO, b"chips: the output is not whole\n");
+        }
         return;
     }
-    io::print_decimal(STDERR_FILENO, answer::number(answer) as u64);
-    io::write_all(STDERR_FILENO, b"\n");
+    refuse(answer);
+}
+
+// Whether standard input has ended: one read more then answers 0, and -1 where it cannot be read.
+fn ended() -> bool {
+    let mut more = [0u8; 1];
+    libc::read(STDIN_FILENO, &mut more) == 0
 }
 
 // Crosses to an image, or to the chips.
@@ -81,6 +97,12 @@ fn cross(to_image: bool, k: usize) {
     let mut lent = [0u8; 65537];
     let mut room = [0u8; 65537];
     let n = io::read_full(STDIN_FILENO, &mut lent);
+    if n < 65537 {
+        if !ended() {
+            io::write_all(STDERR_FILENO, b"chips: the input cannot be read\n");
+            return;
+        }
+    }
     let answer = one_way(to_image, k, &lent[..n], &mut room);
     finish(answer, &room[..n]);
 }

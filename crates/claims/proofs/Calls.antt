@@ -13,6 +13,8 @@ use Rattle.frame.proofs.Unique.{draw-op}
 use Rattle.screen.proofs.Unique.{show-op}
 use Rattle.back.proofs.Unique.{read-back-op}
 use Rattle.chip.proofs.Unique.{to-image-op, to-chip-op}
+use Rattle.intake.specs.declared.Intake.{Intake}
+use Rattle.intake.proofs.Unique.{settings-of-op}
 use Rattle.wording.specs.declared.Text.{Text}
 use Rattle.wording.proofs.Unique.{report-op}
 
@@ -48,6 +50,10 @@ ToImage κs k chip image z out = Allows to-image-op κs (k, (chip, (image, tt)))
 -- `to_chip` may answer z and leave `out` in the chip
 abbrev pub ToChip : Lfts 2 → ℕ → Lent → Lent → Answer → List ℕ → Type 0
 ToChip κs k image chip z out = Allows to-chip-op κs (k, (image, (chip, tt))) z (tt, (tt, (out, tt)))
+
+-- `settings_of` may give r
+abbrev pub TakesIn : Lfts 1 → Lent → Intake → Type 0
+TakesIn κs sheet r = Allows settings-of-op κs (sheet, tt) r (tt, tt)
 
 -- `report` may give the text r
 abbrev pub Reports : Lfts 1 → Lent → Text → Type 0

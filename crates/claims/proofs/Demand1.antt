@@ -2,7 +2,7 @@
 -- lent byte. A success writes only the part that is named." That every input is taken is `all-fix` of Operations; that each call ends comes
 -- with the proof of its function.
 use Prim.Native.Nat.{ℕ, _^_, _≤_, _<_}
-use mathlib.Core.Path.{_≡_, refl, _∙_}
+use mathlib.Core.Path.{_≡_, refl, ap, _∙_}
 use mathlib.Core.Bool.{Bool, true, false}
 use mathlib.Core.List.{List, _++_}
 use mathlib.Core.Logic.{_↔_}
@@ -35,7 +35,10 @@ use Rattle.back.specs.Back.{lengthOrder, strayOrder, backTold}
 use Rattle.back.proofs.Backs.{back-accepted, strip-done as back-done, strip-kept}
 use Rattle.chip.specs.Chip.{chipOrder, chipTold, chipAfter, crossedByte}
 use Rattle.chip.proofs.Answers.{accepted as chip-accepted, room-done, room-refused}
-use Rattle.claims.proofs.Calls.{Lent, Plays, Fetches, Draws, Shows, ReadsBack, ToImage, ToChip}
+use Rattle.intake.specs.declared.Intake.{Intake}
+use Rattle.intake.specs.Intake.{intakeOrder, intakeTold, noSettings}
+use Rattle.intake.proofs.Judges.{given-refused}
+use Rattle.claims.proofs.Calls.{Lent, Plays, Fetches, Draws, Shows, ReadsBack, ToImage, ToChip, TakesIn}
 
 -- what is told is what the order says: each number exactly when its condition holds and none earlier does, done exactly when none does
 pub record Ordered (told : Told) (order : List Check) (value : ℕ) : Type 0 where
@@ -143,3 +146,12 @@ to-image-demand κs k chip image z out p = chip-demand k chip image z out p
 pub to-chip-demand : (κs : Lfts 2) (k : ℕ) (image chip : Lent) (z : Answer) (out : List ℕ) → ToChip κs k image chip z out
     → Ordered (toldOf z) (chipOrder k (length (now image)) (length (now chip))) 0 × Guarded (toldOf z) (length (now image)) (now chip) out
 to-chip-demand κs k image chip z out p = chip-demand k image chip z out p
+
+-- the settings of a sheet: 11, 10, 1, 2, 4; a refusal gives none. It is lent nothing that it could write
+pub settings-demand : (κs : Lfts 1) (sheet : Lent) (z : Intake) → TakesIn κs sheet z
+    → Ordered (toldOf (z .answer)) (intakeOrder (now sheet)) 0 × ((toldOf (z .answer) .number ≡ 0 → ⊥) → z .settings ≡ noSettings)
+unfolding intakeTold
+settings-demand κs sheet z p = (
+  ordered (intakeOrder (now sheet)) 0 tt (p .told),
+  λ no. p .settings ∙ given-refused (now sheet) (λ e. no (ap (λ (t : Told). t .number) (p .told) ∙ e)),
+)

@@ -46,11 +46,14 @@ use Rattle.grammar.specs.Sheet.{nl, Fields, ValidSheet, front, render, sheets}
 use Rattle.grammar.specs.Given.{fieldsIn}
 use Rattle.sheet.specs.declared.Sheet.{Sheet}
 use Rattle.sheet.proofs.Annotations.{Reads, Line, Tail, joined, line-some, lines-join, tail-ends, tail-holds, accepted-sheet, refused-sheet}
+use Rattle.intake.specs.Intake.{intakeTold, settingsIn}
+use Rattle.intake.specs.declared.Intake.{Intake}
+use Rattle.intake.proofs.Judges.{given-done}
 use Rattle.wording.specs.declared.Text.{Text}
 use Rattle.wording.specs.Words.{held}
-use Rattle.wording.specs.Report.{reportTold, reportOf}
+use Rattle.wording.specs.Report.{reportOf}
 use Rattle.wording.proofs.Fits.{holds-report, ends-with-lines}
-use Rattle.claims.proofs.Calls.{Lent, Plays, Fetches, Draws, Shows, ReadsBack, Reports}
+use Rattle.claims.proofs.Calls.{Lent, Plays, Fetches, Draws, Shows, ReadsBack, TakesIn, Reports}
 
 -- the answer is done
 abbrev pub Done : Answer → Type 0
@@ -194,11 +197,15 @@ module _ (s : Lent) (κs : Lfts 1) (z : Sheet) (read : Reads κs s z) where
   pub broken-sheet : (Done (z .answer) → ⊥) → (toldOf (z .answer) .number ≡ 11) × Longest sheets (now s) (toldOf (z .answer) .place) × ((f : Fields) → ValidSheet f → now s ≡ render f → ⊥)
   broken-sheet differ = refused-sheet s κs z read differ
 
+-- The settings of a sheet that is taken in: its writes played from reset, and its pins.
+pub sheet-settings : (κs : Lfts 1) (s : Lent) (z : Intake) → TakesIn κs s z → Done (z .answer) → z .settings ≡ settingsIn (now s)
+sheet-settings κs s z p d = p .settings ∙ given-done (now s) (ap (λ (t : Told). t .number) (sym (p .told)) ∙ d)
+
 -- What the report prints is the report, and but for a broken sheet it ends with the annotation lines as they stand in the sheet.
 pub printed : (κs : Lfts 1) (s : Lent) (r : Text) → Reports κs s r → held r ≡ reportOf (now s)
 printed κs s r p = holds-report (now s) r p
 
-pub printed-ends : (κs κt : Lfts 1) (s t : Lent) (r : Text) → Reports κs s r → Tail κt s t → (reportTold (now s) .number ≡ 11 → ⊥) → (before : List ℕ) × (held r ≡ before ++ now t)
+pub printed-ends : (κs κt : Lfts 1) (s t : Lent) (r : Text) → Reports κs s r → Tail κt s t → (intakeTold (now s) .number ≡ 11 → ⊥) → (before : List ℕ) × (held r ≡ before ++ now t)
 printed-ends κs κt s t r p w h =
     let e = ends-with-lines (now s) h in
     (e .0, printed κs s r p ∙ e .1 ∙ ap (λ (x : List ℕ). e .0 ++ x) (sym (tail-holds s κt t w)))

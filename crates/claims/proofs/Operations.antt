@@ -13,6 +13,7 @@ use Rattle.back.proofs.Unique as back
 use Rattle.chip.proofs.Unique as chip
 use Rattle.outline.proofs.Unique as outline
 use Rattle.sheet.proofs.Unique as sheet
+use Rattle.intake.proofs.Unique as intake
 use Rattle.wording.proofs.Unique as wording
 use Rattle.printing.proofs.Unique as printing
 
@@ -52,6 +53,7 @@ operations =
     ∷ sheet.deed-op
     ∷ sheet.annotation-op
     ∷ sheet.tail-op
+    ∷ intake.settings-of-op
     ∷ wording.report-op
     ∷ printing.say-op
     ∷ printing.form-op
@@ -98,6 +100,7 @@ all-fix =
     & sheet.deed-fixes
     & sheet.annotation-fixes
     & sheet.tail-fixes
+    & intake.settings-of-fixes
     & wording.report-fixes
     & printing.say-fixes
     & printing.form-fixes
@@ -143,6 +146,7 @@ pub named : map (λ o. o .key) operations
     ∷ "sheet::deed"
     ∷ "sheet::annotation"
     ∷ "sheet::tail"
+    ∷ "intake::settings_of"
     ∷ "wording::report"
     ∷ "printing::say"
     ∷ "printing::form"

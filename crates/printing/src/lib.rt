@@ -1,14 +1,23 @@
 // What the programs print of a run: bytes, forms with numbers in them, answers. Of what is printed no contract can speak; each
 // public function answers nothing, and is lent nothing that it could write.
 use answer::Answer;
+use libc::STDERR_FILENO;
+use libc::STDOUT_FILENO;
 ghost use mathlib.Core.Path.{_≡_};
 ghost use Prim.Native.Nat.{_<_};
+
+// Says so on standard error where something was not written whole.
+fn look_at(written: bool) {
+    if !written {
+        io::write_all(STDERR_FILENO, b"the output is not whole\n");
+    }
+}
 
 // Prints bytes as they are.
 pub fn say(words: &[u8])
     ensures { λ r. ⌜ r ≡ tt {0} ⌝ }
 {
-    io::write_all(1, words);
+    look_at(io::write_all(STDOUT_FILENO, words));
 }
 
 // The capital hex digit of a number.
@@ -26,7 +35,7 @@ fn hex_byte(b: u8) {
 // Prints a number as its sign asks: `#` in decimal, `%` as two hex digits, else as four.
 fn number_as(sign: u8, n: usize) {
     if sign == b'#' {
-        io::print_decimal(1, n as u64);
+        look_at(io::print_decimal(STDOUT_FILENO, n as u64));
         return;
     }
     if sign == b'$' {

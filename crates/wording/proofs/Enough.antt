@@ -13,7 +13,8 @@ use Rattle.grammar.specs.Read.{readSheet}
 use Rattle.grammar.specs.Given.{isGot}
 use Rattle.grammar.proofs.Grammar.{refused-at, read-back}
 use Rattle.grammar.proofs.Length.{none-longer}
-use Rattle.wording.specs.Report.{reportTold, settingsIn, reportOf}
+use Rattle.intake.specs.Intake.{intakeTold, settingsIn}
+use Rattle.wording.specs.Report.{reportOf}
 
 -- the longest sheet has 28,152 bytes
 abbrev pub enough : ℕ
@@ -56,5 +57,5 @@ read-enough s =
 
 -- so its report is theirs
 pub report-enough : (s : List ℕ) → reportOf (take enough s) ≡ reportOf s
-unfolding reportOf reportTold settingsIn
+unfolding reportOf intakeTold settingsIn
 report-enough s = rw (read-enough s)

@@ -12,11 +12,12 @@ use Rattle.settings.proofs.Names.{name-small}
 use Rattle.grammar.specs.Sheet.{eq, nl, lines}
 use Rattle.grammar.specs.Given.{fieldsIn}
 use Rattle.wording.specs.Words.{annotationsWord, decimalIn, decimal, lineOf, room, textOf, held}
-use Rattle.wording.specs.Report.{settingsIn, reportTold, statusLine, placeLine, deedLine, settingLines, annotated, reportOf}
+use Rattle.intake.specs.Intake.{settingsIn, intakeTold}
+use Rattle.wording.specs.Report.{statusLine, placeLine, deedLine, settingLines, annotated, reportOf}
 use Rattle.wording.specs.declared.Text.{Text}
 use Rattle.wording.proofs.Texts.{held-text, holds-text, text-long, place-long as place-full}
 use Rattle.wording.proofs.Values.{deed-small, tail-small}
-use Rattle.wording.proofs.Judges.{report-done, report-refused}
+use Rattle.wording.proofs.Cases.{report-done, report-refused}
 
 pub decimal-small : (most n : ℕ) → length (decimalIn most n) ≤ most
 unfolding decimalIn
@@ -43,21 +44,21 @@ module _ (s : List ℕ) where
   deed-line-long : length (deedLine s) ≤ 30
   deed-line-long = simp length-append (omega (arith, deed-small s))
 
-  status-long : length (statusLine (reportTold s)) ≤ 30
-  status-long = simp length-append (omega (arith, decimal-small 20 (reportTold s .number)))
+  status-long : length (statusLine (intakeTold s)) ≤ 30
+  status-long = simp length-append (omega (arith, decimal-small 20 (intakeTold s .number)))
 
-  place-long : length (placeLine (reportTold s)) ≤ 30
-  place-long = simp length-append (omega (arith, decimal-small 20 (reportTold s .place)))
+  place-long : length (placeLine (intakeTold s)) ≤ 30
+  place-long = simp length-append (omega (arith, decimal-small 20 (intakeTold s .place)))
 
   -- every report fits
   pub report-fits : length (reportOf s) ≤ room
   unfolding reportOf
   report-fits =
-      of-both (λ (l : List ℕ). length l ≤ room) (eqb (reportTold s .number) 0)
-      (omega (arith, length-append (statusLine (reportTold s)) (deedLine s ++ (settingLines (settingsIn s) ++ annotated s)), length-append (deedLine s) (settingLines (settingsIn s) ++ annotated s), length-append (settingLines (settingsIn s)) (annotated s), status-long, deed-line-long, settings-long (settingsIn s), annotated-long))
-      (of-both (λ (l : List ℕ). length l ≤ room) (eqb (reportTold s .number) 11)
-      (omega (arith, length-append (statusLine (reportTold s)) (placeLine (reportTold s)), status-long, place-long))
-      (omega (arith, length-append (statusLine (reportTold s)) (placeLine (reportTold s) ++ (deedLine s ++ annotated s)), length-append (placeLine (reportTold s)) (deedLine s ++ annotated s), length-append (deedLine s) (annotated s), status-long, place-long, deed-line-long, annotated-long)))
+      of-both (λ (l : List ℕ). length l ≤ room) (eqb (intakeTold s .number) 0)
+      (omega (arith, length-append (statusLine (intakeTold s)) (deedLine s ++ (settingLines (settingsIn s) ++ annotated s)), length-append (deedLine s) (settingLines (settingsIn s) ++ annotated s), length-append (settingLines (settingsIn s)) (annotated s), status-long, deed-line-long, settings-long (settingsIn s), annotated-long))
+      (of-both (λ (l : List ℕ). length l ≤ room) (eqb (intakeTold s .number) 11)
+      (omega (arith, length-append (statusLine (intakeTold s)) (placeLine (intakeTold s)), status-long, place-long))
+      (omega (arith, length-append (statusLine (intakeTold s)) (placeLine (intakeTold s) ++ (deedLine s ++ annotated s)), length-append (placeLine (intakeTold s)) (deedLine s ++ annotated s), length-append (deedLine s) (annotated s), status-long, place-long, deed-line-long, annotated-long)))
 
   -- so the bytes that a report's text holds are the report
   module _ (r : Text) (e : r ≡ textOf (reportOf s)) where
@@ -75,16 +76,16 @@ module _ (s : List ℕ) where
   counted : List ℕ
   counted = lineOf annotationsWord (decimal (length (fieldsIn s .annotations)))
 
-  done-ends : statusLine (reportTold s) ++ (deedLine s ++ (settingLines (settingsIn s) ++ annotated s)) ≡ (statusLine (reportTold s) ++ (deedLine s ++ (settingLines (settingsIn s) ++ counted))) ++ lines (fieldsIn s .annotations)
+  done-ends : statusLine (intakeTold s) ++ (deedLine s ++ (settingLines (settingsIn s) ++ annotated s)) ≡ (statusLine (intakeTold s) ++ (deedLine s ++ (settingLines (settingsIn s) ++ counted))) ++ lines (fieldsIn s .annotations)
   unfolding counted
   done-ends = simp append-assoc
 
-  refused-ends : statusLine (reportTold s) ++ (placeLine (reportTold s) ++ (deedLine s ++ annotated s)) ≡ (statusLine (reportTold s) ++ (placeLine (reportTold s) ++ (deedLine s ++ counted))) ++ lines (fieldsIn s .annotations)
+  refused-ends : statusLine (intakeTold s) ++ (placeLine (intakeTold s) ++ (deedLine s ++ annotated s)) ≡ (statusLine (intakeTold s) ++ (placeLine (intakeTold s) ++ (deedLine s ++ counted))) ++ lines (fieldsIn s .annotations)
   unfolding counted
   refused-ends = simp append-assoc
 
-  pub ends-with-lines : (reportTold s .number ≡ 11 → ⊥) → (before : List ℕ) × (reportOf s ≡ before ++ lines (fieldsIn s .annotations))
+  pub ends-with-lines : (intakeTold s .number ≡ 11 → ⊥) → (before : List ℕ) × (reportOf s ≡ before ++ lines (fieldsIn s .annotations))
   ends-with-lines h =
-      by-test (eqb (reportTold s .number) 0)
-      (λ e. (statusLine (reportTold s) ++ (deedLine s ++ (settingLines (settingsIn s) ++ counted)), report-done s (eqb-true _ _ e) ∙ done-ends))
-      (λ e. (statusLine (reportTold s) ++ (placeLine (reportTold s) ++ (deedLine s ++ counted)), report-refused s (eqb-false _ _ e) h ∙ refused-ends))
+      by-test (eqb (intakeTold s .number) 0)
+      (λ e. (statusLine (intakeTold s) ++ (deedLine s ++ (settingLines (settingsIn s) ++ counted)), report-done s (eqb-true _ _ e) ∙ done-ends))
+      (λ e. (statusLine (intakeTold s) ++ (placeLine (intakeTold s) ++ (deedLine s ++ counted)), report-refused s (eqb-false _ _ e) h ∙ refused-ends))

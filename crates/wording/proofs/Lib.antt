@@ -2,7 +2,7 @@
 pub mod Decimals
 pub mod Texts
 pub mod Values
-pub mod Judges
+pub mod Cases
 pub mod Fits
 pub mod Enough
 pub mod Unique

@@ -1,19 +1,14 @@
 // The report's text, whole.
-use answer::Answer;
-use settings::Look;
 use settings::Settings;
 ghost use mathlib.Core.Path.{_≡_};
 ghost use Prim.Native.Nat.{_+_, _≤_, _<_};
 ghost use mathlib.Core.List.{[], _++_};
 ghost use lib.ListN.{length, drop};
-ghost use Rattle.paper.specs.Told.{done};
-ghost use Rattle.paper.specs.Order.{firstOf};
-ghost use Rattle.answer.specs.Told.{toldOf};
 ghost use Rattle.text.specs.Hex.{hexDigit, hex};
 ghost use Rattle.grammar.specs.Sheet.{nl};
 ghost use Rattle.grammar.specs.Given.{fieldsIn};
 ghost use Rattle.wording.specs.Words.{decimal, room, textOf, held, Holds};
-ghost use Rattle.wording.specs.Report.{settingsIn, settingOrder, reportTold, settingLines, annotated, reportOf};
+ghost use Rattle.wording.specs.Report.{settingLines, annotated, reportOf};
 
 // The report's own keys; `deed=` and `pins=` are the sheet's.
 const STATUS_KEY: [u8; 7] = *b"status=";
@@ -156,75 +151,14 @@ fn annotated(text: Text, lent: &[u8], count: usize) -> Text
     append(counted, sheet::tail(lent))
 }
 
-// What the report tells of a sheet, and what it reads off it.
-struct Judged {
-    answer: Answer,
-    settings: Settings,
-    annotations: usize,
-}
-
-// The report's checks of the settings: 1, 2, 4.
-fn settings_answer(settings: Settings) -> Answer
-    ensures { λ r. ⌜ toldOf r ≡ firstOf (settingOrder settings) (done 0) ⌝ }
-{
-    let look = settings.look;
-    let text = !settings::graphics(look);
-    let mut answer = Answer::Done(0);
-    answer = answer::check(answer, 63 < look.pins, Answer::PinsAbove);
-    answer = answer::check(answer, text & settings::external(look), Answer::External);
-    answer::check(answer, settings::fast(settings), Answer::FastRate)
-}
-
-// What the report tells of a sheet: 11, 10, 1, 2, 4. Its settings are those of a sheet whose writes are played.
-fn judge(lent: &[u8]) -> Judged
-    ensures { λ r. ⌜ toldOf (r .answer) ≡ reportTold (now (lent .entry)) ⌝ }
-    ensures { λ r. ⌜ (toldOf (r .answer) .number ≡ 0 → r .settings ≡ settingsIn (now (lent .entry))) ⌝ }
-    ensures { λ r. ⌜ r .annotations ≡ length (fieldsIn (now (lent .entry)) .annotations) ⌝ }
-{
-    let sheet = sheet::read(lent);
-    let read = sheet.answer;
-    let writes = sheet.writes;
-    let count = sheet.write_count;
-    let pins = sheet.pins;
-    let annotations = sheet.annotations;
-    let blank = Settings {
-        word: 0,
-        look: Look { pins },
-    };
-    if answer::number(read) != 0 {
-        return Judged {
-            answer: read,
-            settings: blank,
-            annotations,
-        };
-    }
-    let played = control::play(0, &writes[..count]);
-    if answer::number(played) != 0 {
-        return Judged {
-            answer: played,
-            settings: blank,
-            annotations,
-        };
-    }
-    let settings = Settings {
-        word: answer::value(played) as u16,
-        look: Look { pins },
-    };
-    Judged {
-        answer: settings_answer(settings),
-        settings,
-        annotations,
-    }
-}
-
 // The report of a sheet.
 pub fn report(sheet: &[u8]) -> Text
     ensures { λ r. ⌜ r ≡ textOf (reportOf (now (sheet .entry))) ⌝ }
 {
-    let judged = judge(sheet);
-    let answer = judged.answer;
-    let settings = judged.settings;
-    let count = judged.annotations;
+    let taken = intake::settings_of(sheet);
+    let answer = taken.answer;
+    let settings = taken.settings;
+    let count = taken.annotations;
     let number = answer::number(answer);
     let status = number_line(blank(), &STATUS_KEY, number as usize);
     if number == 0 {

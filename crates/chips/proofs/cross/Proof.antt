@@ -1,6 +1,6 @@
 -- `chips::cross` is safe and ends: as many bytes are written as were read.
-use mathlib.Core.Path.{sym}
 use lib.Seq.{length-take-le}
+use mathlib.Core.Path.{sym}
 use borrow.Author.Needs.{needs}
 use Rattle.chips.proofs.cross.Statement.{statement}
 use Rattle.chips.proofs.cross.Tie as tie
@@ -10,6 +10,18 @@ slice-aggregate-read-full c = search needs
 
 read-full-requires : tie.Need-read-full-requires
 read-full-requires c κs = search needs
+
+ended-requires : tie.Need-ended-requires
+ended-requires c κs = search needs
+
+slice-aggregate-write-all : tie.Need-slice-aggregate-write-all
+slice-aggregate-write-all c = search needs
+
+write-all-requires : tie.Need-write-all-requires
+write-all-requires c κs = search needs
+
+returns : tie.Need-returns
+returns c = search needs
 
 array-share-prefix-lent : tie.Need-array-share-prefix-lent
 array-share-prefix-lent c = search needs
@@ -32,8 +44,8 @@ slice-aggregate-finish c = sym (length-take-le _ _ (array-share-prefix-room (c .
 finish-requires : tie.Need-finish-requires
 finish-requires c κs = search needs
 
-returns : tie.Need-returns
-returns c = search needs
+returns-2 : tie.Need-returns-2
+returns-2 c = search needs
 
 pub cross-spec : {M : Type 1} → statement M
 cross-spec =
@@ -41,6 +53,10 @@ cross-spec =
     (tie.spec
     slice-aggregate-read-full
     read-full-requires
+    ended-requires
+    slice-aggregate-write-all
+    write-all-requires
+    returns
     array-share-prefix-lent
     slice-aggregate-one-way
     slice-aggregate-one-way-2
@@ -48,4 +64,4 @@ cross-spec =
     array-share-prefix-room
     slice-aggregate-finish
     finish-requires
-    returns)
+    returns-2)

@@ -1,20 +1,8 @@
--- `report::main` meets its contract.
+-- `report::print` is safe and ends: the text fits its place.
 use Rattle.wording.proofs.Fits.{text-within, text-held}
 use borrow.Author.Needs.{needs}
-use Rattle.report.proofs.main.Statement.{statement}
-use Rattle.report.proofs.main.Tie as tie
-
-slice-aggregate-read-full : tie.Need-slice-aggregate-read-full
-slice-aggregate-read-full c = search needs
-
-read-full-requires : tie.Need-read-full-requires
-read-full-requires c κs = search needs
-
-array-share-prefix-sheet : tie.Need-array-share-prefix-sheet
-array-share-prefix-sheet c = search needs
-
-slice-aggregate-report : tie.Need-slice-aggregate-report
-slice-aggregate-report c = search needs
+use Rattle.report.proofs.print.Statement.{statement}
+use Rattle.report.proofs.print.Tie as tie
 
 report-requires : tie.Need-report-requires
 report-requires c κs = search needs
@@ -28,19 +16,27 @@ slice-aggregate-write-all c = text-held _ (c .before .before .report .result) (c
 write-all-requires : tie.Need-write-all-requires
 write-all-requires c κs = search needs
 
+slice-aggregate-write-all-2 : tie.Need-slice-aggregate-write-all-2
+slice-aggregate-write-all-2 c = search needs
+
+write-all-requires-2 : tie.Need-write-all-requires-2
+write-all-requires-2 c κs = search needs
+
 returns : tie.Need-returns
 returns c = search needs
 
-pub main-spec : {M : Type 1} → statement M
-main-spec =
+returns-2 : tie.Need-returns-2
+returns-2 c = search needs
+
+pub print-spec : {M : Type 1} → statement M
+print-spec =
     tie.close
     (tie.spec
-    slice-aggregate-read-full
-    read-full-requires
-    array-share-prefix-sheet
-    slice-aggregate-report
     report-requires
     array-share-prefix-bytes
     slice-aggregate-write-all
     write-all-requires
-    returns)
+    slice-aggregate-write-all-2
+    write-all-requires-2
+    returns
+    returns-2)

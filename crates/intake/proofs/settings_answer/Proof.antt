@@ -1,12 +1,12 @@
--- `wording::settings_answer` meets its contract.
+-- `intake::settings_answer` meets its contract.
 use mathlib.Core.Path.{_≡_, refl}
 use mathlib.Core.List.{[], _∷_}
 use Rattle.paper.specs.Told.{done}
 use Rattle.paper.proofs.Orders.{checked}
 use Rattle.settings.specs.Refusals.{pinsAbove, externalText, fastRate}
 use borrow.Author.Needs.{needs}
-use Rattle.wording.proofs.settings_answer.Statement.{statement}
-use Rattle.wording.proofs.settings_answer.Tie as tie
+use Rattle.intake.proofs.settings_answer.Statement.{statement}
+use Rattle.intake.proofs.settings_answer.Tie as tie
 
 graphics-requires : tie.Need-graphics-requires
 graphics-requires c κs = search needs
