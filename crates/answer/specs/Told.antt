@@ -1,20 +1,39 @@
 -- The numbers a clerk sees: what document 01's table, and document 02 after it, tells of each answer, a line for each case.
+use Prim.Native.Nat.{ℕ}
 use Rattle.paper.specs.Told.{Told, told, done, refused}
+use Rattle.answer.specs.declared.Unfit.{Unfit}
+use Rattle.answer.specs.declared.Unfit.the-variants.{PinsAbove, External, TextBack, FastRate, ImageLength, FontLength, ShortStrip, ShortFrame}
+use Rattle.answer.specs.declared.Later.{Later}
+use Rattle.answer.specs.declared.Later.the-variants.{OtherChip, ShortDestination}
+use Rattle.answer.specs.declared.Spot.{Spot}
+use Rattle.answer.specs.declared.Spot.the-variants.{Stray, BrokenSheet}
 use Rattle.answer.specs.declared.Answer.{Answer}
-use Rattle.answer.specs.declared.Answer.the-variants.{Done, PinsAbove, External, TextBack, FastRate, ImageLength, FontLength, ShortStrip, ShortFrame, Stray, Elsewhere, BrokenSheet, OtherChip, ShortDestination}
+use Rattle.answer.specs.declared.Answer.the-variants.{Done, Unfit as ByUnfit, Later as ByLater, At, Elsewhere}
+
+-- by settings and lengths
+abbrev pub unfitNumber : Unfit → ℕ
+unfitNumber PinsAbove = 1
+unfitNumber External = 2
+unfitNumber TextBack = 3
+unfitNumber FastRate = 4
+unfitNumber ImageLength = 5
+unfitNumber FontLength = 6
+unfitNumber ShortStrip = 7
+unfitNumber ShortFrame = 8
+
+-- of operations added later
+abbrev pub laterNumber : Later → ℕ
+laterNumber OtherChip = 13
+laterNumber ShortDestination = 14
+
+-- with a place
+abbrev pub spotNumber : Spot → ℕ
+spotNumber Stray = 9
+spotNumber BrokenSheet = 11
 
 abbrev pub toldOf : Answer → Told
 toldOf (Done v) = done v
-toldOf PinsAbove = refused 1
-toldOf External = refused 2
-toldOf TextBack = refused 3
-toldOf FastRate = refused 4
-toldOf ImageLength = refused 5
-toldOf FontLength = refused 6
-toldOf ShortStrip = refused 7
-toldOf ShortFrame = refused 8
-toldOf (Stray p) = told 9 p 0
+toldOf (ByUnfit u) = refused (unfitNumber u)
+toldOf (ByLater l) = refused (laterNumber l)
+toldOf (At s p) = told (spotNumber s) p 0
 toldOf (Elsewhere p w) = told 10 p w
-toldOf (BrokenSheet p) = told 11 p 0
-toldOf OtherChip = refused 13
-toldOf ShortDestination = refused 14

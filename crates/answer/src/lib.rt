@@ -1,14 +1,10 @@
 // What an operation answers, and what a clerk is told of it.
 ghost use mathlib.Core.Path.{_≡_};
-ghost use mathlib.Core.Bool.{_&&_};
-ghost use lib.Dec.{eqb};
-ghost use Rattle.paper.specs.Choose.{choose};
-ghost use Rattle.answer.specs.Told.{toldOf};
+ghost use Rattle.paper.specs.Order.{check, after};
+ghost use Rattle.answer.specs.Told.{unfitNumber, laterNumber, spotNumber, toldOf};
 
-// Done with its value, or refused: a case for each number of documents 01 and 02, in the order in which they landed, holding what
-// the paper gives it.
-pub enum Answer {
-    Done(usize),
+// Refusals by settings and lengths; none names a place.
+pub enum Unfit {
     PinsAbove,
     External,
     TextBack,
@@ -17,14 +13,64 @@ pub enum Answer {
     FontLength,
     ShortStrip,
     ShortFrame,
-    // The index of the first stray pixel.
-    Stray(usize),
-    // The index of the first write elsewhere, and the word before the list.
-    Elsewhere(usize, u16),
-    // The length of the sheet's longest beginning that some accepted sheet has.
-    BrokenSheet(usize),
+}
+
+// Refusals of operations added later that name no place.
+pub enum Later {
     OtherChip,
     ShortDestination,
+}
+
+// Refusals that name a place.
+pub enum Spot {
+    // The index of the first stray pixel.
+    Stray,
+    // The length of the sheet's longest beginning that some accepted sheet has.
+    BrokenSheet,
+}
+
+// Done with its value, or refused: each case holds what the paper gives it.
+pub enum Answer {
+    Done(usize),
+    Unfit(Unfit),
+    Later(Later),
+    At(Spot, usize),
+    // The index of the first write elsewhere, and the word before the list.
+    Elsewhere(usize, u16),
+}
+
+// The numbers of each chapter, in the order in which they landed.
+fn unfit_number(u: Unfit) -> u8
+    ensures { λ r. ⌜ r ≡ unfitNumber u ⌝ }
+{
+    match u {
+        Unfit::PinsAbove => 1,
+        Unfit::External => 2,
+        Unfit::TextBack => 3,
+        Unfit::FastRate => 4,
+        Unfit::ImageLength => 5,
+        Unfit::FontLength => 6,
+        Unfit::ShortStrip => 7,
+        Unfit::ShortFrame => 8,
+    }
+}
+
+fn later_number(l: Later) -> u8
+    ensures { λ r. ⌜ r ≡ laterNumber l ⌝ }
+{
+    match l {
+        Later::OtherChip => 13,
+        Later::ShortDestination => 14,
+    }
+}
+
+fn spot_number(s: Spot) -> u8
+    ensures { λ r. ⌜ r ≡ spotNumber s ⌝ }
+{
+    match s {
+        Spot::Stray => 9,
+        Spot::BrokenSheet => 11,
+    }
 }
 
 // The number that a clerk sees.
@@ -33,19 +79,10 @@ pub fn number(a: Answer) -> u8
 {
     match a {
         Answer::Done(_) => 0,
-        Answer::PinsAbove => 1,
-        Answer::External => 2,
-        Answer::TextBack => 3,
-        Answer::FastRate => 4,
-        Answer::ImageLength => 5,
-        Answer::FontLength => 6,
-        Answer::ShortStrip => 7,
-        Answer::ShortFrame => 8,
-        Answer::Stray(_) => 9,
+        Answer::Unfit(u) => unfit_number(u),
+        Answer::Later(l) => later_number(l),
+        Answer::At(s, _) => spot_number(s),
         Answer::Elsewhere(_, _) => 10,
-        Answer::BrokenSheet(_) => 11,
-        Answer::OtherChip => 13,
-        Answer::ShortDestination => 14,
     }
 }
 
@@ -55,19 +92,10 @@ pub fn place(a: Answer) -> usize
 {
     match a {
         Answer::Done(_) => 0,
-        Answer::PinsAbove => 0,
-        Answer::External => 0,
-        Answer::TextBack => 0,
-        Answer::FastRate => 0,
-        Answer::ImageLength => 0,
-        Answer::FontLength => 0,
-        Answer::ShortStrip => 0,
-        Answer::ShortFrame => 0,
-        Answer::Stray(p) => p,
+        Answer::Unfit(_) => 0,
+        Answer::Later(_) => 0,
+        Answer::At(_, p) => p,
         Answer::Elsewhere(p, _) => p,
-        Answer::BrokenSheet(p) => p,
-        Answer::OtherChip => 0,
-        Answer::ShortDestination => 0,
     }
 }
 
@@ -77,25 +105,16 @@ pub fn value(a: Answer) -> usize
 {
     match a {
         Answer::Done(v) => v,
-        Answer::PinsAbove => 0,
-        Answer::External => 0,
-        Answer::TextBack => 0,
-        Answer::FastRate => 0,
-        Answer::ImageLength => 0,
-        Answer::FontLength => 0,
-        Answer::ShortStrip => 0,
-        Answer::ShortFrame => 0,
-        Answer::Stray(_) => 0,
+        Answer::Unfit(_) => 0,
+        Answer::Later(_) => 0,
+        Answer::At(_, _) => 0,
         Answer::Elsewhere(_, word) => word as usize,
-        Answer::BrokenSheet(_) => 0,
-        Answer::OtherChip => 0,
-        Answer::ShortDestination => 0,
     }
 }
 
 // The answer after one more check: the refusal where none was given before and its condition holds.
 pub fn check(answer: Answer, when: bool, refusal: Answer) -> Answer
-    ensures { λ r. ⌜ toldOf r ≡ choose (eqb (toldOf answer .number) 0 && when) (toldOf refusal) (toldOf answer) ⌝ }
+    ensures { λ r. ⌜ toldOf r ≡ after (check when (toldOf refusal)) (toldOf answer) ⌝ }
 {
     let done = number(answer) == 0;
     if done & when { refusal } else { answer }

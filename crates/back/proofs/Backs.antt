@@ -1,31 +1,28 @@
 -- Reading back, done or refused: what is then known, what is told, and what the strip is.
 use Prim.Native.Nat.{ℕ, _*_, _≤_, _<_}
-use mathlib.Core.Path.{_≡_, refl, ap, _∙_}
+use mathlib.Core.Path.{_≡_, refl, sym, ap, _∙_}
 use mathlib.Core.Bool.{Bool, true, false, not, _||_}
-use mathlib.Core.List.{List, _++_}
+use mathlib.Core.List.{List, [], _∷_}
 use native.Mathlib.Omega.{arith}
-use lib.Dec.{eqb, ltb}
+use lib.Dec.{ltb}
 use lib.ListN.{length, getD}
-use borrow.Author.Tests.{le-ltb, ltb-false, eq-eqb}
-use Rattle.paper.specs.Choose.{choose}
+use borrow.Author.Tests.{lt-ltb, le-ltb, ltb-false, not-false}
 use Rattle.paper.specs.Told.{Told, told, done}
 use Rattle.paper.specs.Order.{firstOf}
 use Rattle.paper.specs.Written.{written}
-use Rattle.paper.proofs.Orders.{done-when}
-use Rattle.paper.proofs.Later.{in-two, refused-alike, passed}
+use Rattle.paper.proofs.Fills.{leaves-done, leaves-refused}
+use Rattle.paper.proofs.Orders.{done-when, passing}
+use Rattle.paper.proofs.Later.{first-refuses, first-passes, first-done}
 use Rattle.settings.specs.declared.Look.{Look}
 use Rattle.settings.specs.Fields.{graphics}
 use Rattle.settings.specs.Modes.{width}
+use Rattle.settings.specs.Refusals.{stripLength, frameLength}
 use Rattle.frame.specs.Draw.{frameAfter}
 use Rattle.frame.proofs.Draws.{accepts-graphics, frame-done}
 use Rattle.back.specs.Read.{readByte}
 use Rattle.back.specs.Stray.{firstStray}
-use Rattle.back.specs.Back.{lengthOrder, strayOrder, backTold, stripAfter, Fits}
+use Rattle.back.specs.Back.{backLengths, backPixels, backOrder, backTold, stripBack, BackFits}
 use Rattle.back.proofs.RoundTrip.{written-draws, drawn-clean, none-stray}
-
-yes-not : (a : Bool) → not a ≡ false → a ≡ true
-yes-not true e = refl
-yes-not false e = let z : _≡_ {A = ℕ} 0 1 = cc in absurd (omega arith)
 
 -- two frames that were alike so far, and are alike here
 pub alike : (x y : Bool) → (x || not y) ≡ false → (x ≡ false) × (y ≡ true)
@@ -34,81 +31,79 @@ alike false false e = let z : _≡_ {A = ℕ} 0 1 = cc in absurd (omega arith)
 alike true y e = let z : _≡_ {A = ℕ} 0 1 = cc in absurd (omega arith)
 
 -- a frame that is like a drawing has no stray pixel
-pub drawing-clean : (l : Look) (font S f P old : List ℕ) → l .pins ≤ 63 → graphics l ≡ true → 192 * width l ≤ length S → 49152 ≤ length old
-    → P ≡ frameAfter l font S old → ((k : ℕ) → k < 49152 → getD f k 0 ≡ getD P k 0) → firstStray l f ≡ 49152
+pub drawing-clean : (l : Look) (font S f P old : List ℕ) → l .pins ≤ 63 → graphics l ≡ true → 192 * width l ≤ length S → frameLength ≤ length old
+    → P ≡ frameAfter l font S old → ((k : ℕ) → k < frameLength → getD f k 0 ≡ getD P k 0) → firstStray l f ≡ frameLength
 drawing-clean l font S f P old p g s o e same =
     drawn-clean l g font S f (λ k h.
     same k h
-    ∙ ap (λ (x : List ℕ). getD x k 0) (e ∙ frame-done l font S old (accepts-graphics l (length font) (length S) (length old) p g s o))
+    ∙ ap (λ (x : List ℕ). getD x k 0) (e ∙ frame-done l font S old (accepts-graphics l font S old p g s o))
     ∙ written-draws l font S old o k h)
 
+-- what is told of the lengths alone, and of the pixels alone
+abbrev pub backLengthTold : Look → ℕ → ℕ → Told
+backLengthTold look strip frame = firstOf (backLengths look strip frame) (done (stripLength look))
+
+abbrev pub pixelTold : Look → List ℕ → Told
+pixelTold look frame = firstOf (backPixels look frame) (done (stripLength look))
+
 -- where no length is refused, all fits
-pub accepted : (look : Look) (strip frame : ℕ) → firstOf (lengthOrder look strip frame) (done (192 * width look)) .number ≡ 0 → Fits look strip frame
-unfolding lengthOrder
-accepted look strip frame e =
-    let n = done-when (done (192 * width look)) refl (lengthOrder look strip frame) tt .0 e in
+pub lengths-fit : (look : Look) (strip frame : ℕ) → backLengthTold look strip frame .number ≡ 0 → BackFits look strip frame
+lengths-fit look strip frame e =
+    let n = passing (1 ∷ 3 ∷ 7 ∷ 8 ∷ []) (backLengths look strip frame) (done-when (done (stripLength look)) refl (backLengths look strip frame) tt .0 e) in
     record {
       pins-low = ltb-false _ _ (n .0);
-      in-graphics = yes-not (graphics look) (n .1 .0);
+      in-graphics = not-false _ (n .1 .0);
       strip-long = ltb-false _ _ (n .1 .1 .0);
       frame-long = ltb-false _ _ (n .1 .1 .1 .0);
     }
 
 module _ (look : Look) (frame strip : List ℕ) where
-  abbrev lengths : Told
-  lengths = firstOf (lengthOrder look (length strip) (length frame)) (done (192 * width look))
-
-  abbrev strays : Told
-  strays = firstOf (strayOrder look frame) (done (192 * width look))
-
-  -- where a length is refused, that is told, and the strip is as it was
-  pub told-refused : eqb (lengths .number) 0 ≡ false → backTold look (length strip) frame ≡ lengths
+  -- where no length is refused, what is told of the pixels
+  pub told-passed : backLengthTold look (length strip) (length frame) .number ≡ 0 → backTold look frame strip ≡ pixelTold look frame
   unfolding backTold
-  told-refused h = in-two (lengthOrder look (length strip) (length frame)) (strayOrder look frame) (done (192 * width look)) ∙ refused-alike (done (192 * width look)) strays refl (lengthOrder look (length strip) (length frame)) h
+  told-passed h = first-passes (done (stripLength look)) refl (backLengths look (length strip) (length frame)) (backPixels look frame) tt h
 
-  pub strip-refused : eqb (lengths .number) 0 ≡ false → stripAfter look frame strip ≡ strip
-  unfolding stripAfter
-  strip-refused h = simp (told-refused h, h)
+  -- where reading back is done, all fits and no pixel is stray, and conversely
+  pub back-accepted : backTold look frame strip .number ≡ 0 → BackFits look (length strip) (length frame) × (firstStray look frame ≡ frameLength)
+  unfolding backTold backPixels
+  back-accepted e = (
+    lengths-fit look (length strip) (length frame) (first-done (done (stripLength look)) refl (backLengths look (length strip) (length frame)) (backPixels look frame) e),
+    none-stray look frame (ltb-false _ _ (passing (9 ∷ []) (backOrder look frame strip) (done-when (done (stripLength look)) refl (backOrder look frame strip) tt .0 e) .0)),
+  )
 
-  -- and where none is, what is told of the pixels
-  pub told-passed : lengths .number ≡ 0 → backTold look (length strip) frame ≡ strays
-  unfolding backTold lengthOrder
-  told-passed h = in-two (lengthOrder look (length strip) (length frame)) (strayOrder look frame) (done (192 * width look)) ∙ passed (done (192 * width look)) strays (lengthOrder look (length strip) (length frame)) tt h
-
-  by-stray : (b : Bool) (k n : ℕ) (x y : List ℕ) → choose (eqb (choose b (told 9 k 0) (done n) .number) 0) x y ≡ choose b y x
-  by-stray true k n x y = refl
-  by-stray false k n x y = refl
-
-  pub strip-passed : lengths .number ≡ 0
-      → stripAfter look frame strip ≡ choose (ltb (firstStray look frame) 49152) strip (written (readByte look frame) (192 * width look) strip)
-  unfolding stripAfter strayOrder
-  strip-passed h = rw (told-passed h) (by-stray (ltb (firstStray look frame) 49152) (firstStray look frame) (192 * width look) (written (readByte look frame) (192 * width look) strip) strip)
-
-  -- over the whole order: where reading back is done, all fits and no pixel is stray, and conversely
-  pub back-accepted : backTold look (length strip) frame .number ≡ 0 → Fits look (length strip) (length frame) × (firstStray look frame ≡ 49152)
-  unfolding backTold lengthOrder strayOrder
-  back-accepted e =
-      let n = done-when (done (192 * width look)) refl (lengthOrder look (length strip) (length frame) ++ strayOrder look frame) tt .0 e in (
-        record {
-          pins-low = ltb-false _ _ (n .0);
-          in-graphics = yes-not (graphics look) (n .1 .0);
-          strip-long = ltb-false _ _ (n .1 .1 .0);
-          frame-long = ltb-false _ _ (n .1 .1 .1 .0);
-        },
-        none-stray look frame (ltb-false _ _ (n .1 .1 .1 .1 .0)),
-      )
-
-  pub back-accepts : Fits look (length strip) (length frame) → firstStray look frame ≡ 49152 → backTold look (length strip) frame .number ≡ 0
-  unfolding backTold lengthOrder strayOrder
+  pub back-accepts : BackFits look (length strip) (length frame) → firstStray look frame ≡ frameLength → backTold look frame strip .number ≡ 0
+  unfolding backTold backPixels
   back-accepts f e =
-      done-when (done (192 * width look)) refl (lengthOrder look (length strip) (length frame) ++ strayOrder look frame) tt .1
-      (le-ltb _ _ (f .pins-low), (simp (f .in-graphics), (le-ltb _ _ (f .strip-long), (le-ltb _ _ (f .frame-long), (le-ltb (firstStray look frame) 49152 (omega arith), tt)))))
+      done-when (done (stripLength look)) refl (backOrder look frame strip) tt .1
+      (le-ltb _ _ (f .pins-low), (simp (f .in-graphics), (le-ltb _ _ (f .strip-long), (le-ltb _ _ (f .frame-long), (le-ltb (firstStray look frame) frameLength (omega arith), tt)))))
 
-  -- and the strip holds what is read, or is as it was
-  pub strip-done : backTold look (length strip) frame .number ≡ 0 → stripAfter look frame strip ≡ written (readByte look frame) (192 * width look) strip
-  unfolding stripAfter
-  strip-done e = simp (eq-eqb _ _ e)
+  -- the strip then holds what is read, or is as it was
+  pub strip-done : backTold look frame strip .number ≡ 0 → stripBack look frame strip ≡ written (readByte look frame) (stripLength look) strip
+  unfolding stripBack
+  strip-done e = leaves-done (backTold look frame strip) _ strip e
 
-  pub strip-kept : eqb (backTold look (length strip) frame .number) 0 ≡ false → stripAfter look frame strip ≡ strip
-  unfolding stripAfter
-  strip-kept e = simp e
+  pub strip-kept : (backTold look frame strip .number ≡ 0 → ⊥) → stripBack look frame strip ≡ strip
+  unfolding stripBack
+  strip-kept h = leaves-refused (backTold look frame strip) _ strip h
+
+  -- where a length is refused, that is told, and the strip stays
+  pub length-refused : {t : Told} → t ≡ backLengthTold look (length strip) (length frame) → (t .number ≡ 0 → ⊥) → (t ≡ backTold look frame strip) × (strip ≡ stripBack look frame strip)
+  unfolding backTold
+  length-refused {t} told h =
+      let e : t ≡ backTold look frame strip = told ∙ sym (first-refuses (done (stripLength look)) refl (backLengths look (length strip) (length frame)) (backPixels look frame) (λ z. h (rw told z))) in
+      (e, sym (strip-kept (λ z. h (rw e z))))
+
+  -- what is told and left by the first stray pixel, where no length is refused
+  module _ (lengths : backLengthTold look (length strip) (length frame) .number ≡ 0) where
+    pub told-stray : firstStray look frame < frameLength → (told 9 (firstStray look frame) 0 ≡ backTold look frame strip) × (strip ≡ stripBack look frame strip)
+    unfolding backPixels
+    told-stray l =
+        let e : backTold look frame strip ≡ told 9 (firstStray look frame) 0 = told-passed lengths ∙ simp (lt-ltb _ _ l) in
+        (sym e, sym (strip-kept (λ z. let q : _≡_ {A = ℕ} 9 0 = ap (λ (t : Told). t .number) (sym e) ∙ z in omega arith)))
+
+    pub told-clean : {new : List ℕ} → frameLength ≤ firstStray look frame → new ≡ written (readByte look frame) (stripLength look) strip
+        → (done (stripLength look) ≡ backTold look frame strip) × (new ≡ stripBack look frame strip)
+    unfolding backPixels
+    told-clean l f =
+        let e : backTold look frame strip ≡ done (stripLength look) = told-passed lengths ∙ simp (le-ltb _ _ l) in
+        (sym e, f ∙ sym (strip-done (ap (λ (t : Told). t .number) e)))

@@ -7,14 +7,16 @@ use mathlib.Core.Logic.{⊎-elim, _↔_}
 use native.Mathlib.Omega.{arith}
 use lib.Dec.{eqb}
 use lib.ListN.{length, getD, replicate, length-replicate}
-use borrow.Author.Tests.{eq-eqb, eqb-true}
-use Rattle.paper.specs.Written.{written, Filled}
+use borrow.Author.Tests.{eq-eqb, eqb-true, not-false}
+use Rattle.paper.specs.Written.{Bytes, written, Filled}
+use Rattle.paper.proofs.Choices.{both-pass}
 use Rattle.paper.proofs.Fills.{lt-or-ge, written-fills}
 use Rattle.paper.proofs.Firsts.{first-le, first-none, nowhere}
 use Rattle.settings.specs.declared.Look.{Look}
 use Rattle.settings.specs.Fields.{graphics}
 use Rattle.settings.specs.Modes.{width, dots}
 use Rattle.settings.proofs.Widths.{width-cases}
+use Rattle.settings.specs.Refusals.{frameLength}
 use Rattle.pixel.specs.Graphics.{count, element, graphic}
 use Rattle.pixel.specs.Picture.{breadth, owner, dot, picture}
 use Rattle.pixel.proofs.Digits.{same-digits}
@@ -24,33 +26,24 @@ use Rattle.back.specs.Read.{values, value, read, readByte}
 use Rattle.back.specs.Stray.{shows, leftmost, stray, firstStray}
 use Rattle.back.proofs.Values.{digits-back, element-back, element-shown, read-small}
 
--- a strip's bytes
-abbrev pub Bytes : List ℕ → Type 0
-Bytes S = (j : ℕ) → getD S j 0 < 256
-
 -- the strip S draws the frame f
 abbrev pub Draws : Look → List ℕ → List ℕ → List ℕ → Type 0
-Draws l font S f = (k : ℕ) → k < 49152 → getD f k 0 ≡ picture l font S k
+Draws l font S f = (k : ℕ) → k < frameLength → getD f k 0 ≡ picture l font S k
 
 -- the strip R is what is read off the frame f
 abbrev pub Reads : Look → List ℕ → List ℕ → Type 0
 Reads l f R = (i : ℕ) → i < 192 * width l → getD R i 0 ≡ readByte l f i
 
 -- a frame that holds the picture of a strip is drawn by it, and a strip that holds what is read is so read
-pub written-draws : (l : Look) (font S old : List ℕ) → 49152 ≤ length old → Draws l font S (written (picture l font S) 49152 old)
-written-draws l font S old h k m = written-fills (picture l font S) 49152 old h .is k zero-le m
+pub written-draws : (l : Look) (font S old : List ℕ) → frameLength ≤ length old → Draws l font S (written (picture l font S) frameLength old)
+written-draws l font S old h k m = written-fills (picture l font S) frameLength old h .is k zero-le m
 
 pub written-reads : (l : Look) (f old : List ℕ) → 192 * width l ≤ length old → Reads l f (written (readByte l f) (192 * width l) old)
 written-reads l f old h i m = written-fills (readByte l f) (192 * width l) old h .is i zero-le m
 
-both : (x y : Bool) → not (x && y) ≡ false → (x ≡ true) × (y ≡ true)
-both true true h = (refl, refl)
-both true false h = let z : _≡_ {A = ℕ} 0 1 = cc in absurd (omega arith)
-both false y h = let z : _≡_ {A = ℕ} 0 1 = cc in absurd (omega arith)
-
-pub none-stray : (l : Look) (f : List ℕ) → 49152 ≤ firstStray l f → firstStray l f ≡ 49152
+pub none-stray : (l : Look) (f : List ℕ) → frameLength ≤ firstStray l f → firstStray l f ≡ frameLength
 unfolding firstStray
-none-stray l f h = omega (arith, first-le (stray l f) 49152)
+none-stray l f h = omega (arith, first-le (stray l f) frameLength)
 
 zeros : (n j : ℕ) → _≡_ {A = ℕ} (getD (replicate n 0) j 0) 0
 zeros zero j = refl
@@ -96,7 +89,7 @@ module _ (l : Look) (g : graphics l ≡ true) where
         ∙ digits-back l (getD S i 0) (bytes i))
 
     -- and it has no stray pixel
-    clean : (k : ℕ) → k < 49152 → stray l f k ≡ false
+    clean : (k : ℕ) → k < frameLength → stray l f k ≡ false
     unfolding stray graphic
     clean k h =
         let i = owner l k in
@@ -106,18 +99,18 @@ module _ (l : Look) (g : graphics l ≡ true) where
         let left : getD f (leftmost l k) 0 ≡ graphic l b t = ap (λ (n : ℕ). getD f n 0) (left-at k) ∙ pixel-at i (t / dots l * dots l) (owner-below l k h) (left-in k) ∙ left-dot b t in
         rw (here, left) (simp (element-shown l b (t / dots l), eq-eqb (element l b (t / dots l)) (element l b (t / dots l)) refl))
 
-    pub drawn-clean : firstStray l f ≡ 49152
+    pub drawn-clean : firstStray l f ≡ frameLength
     unfolding firstStray
-    drawn-clean = first-none (stray l f) 49152 clean
+    drawn-clean = first-none (stray l f) frameLength clean
 
   -- a frame without a stray pixel is the picture of the strip read off it
-  pub clean-drawn : (font f R : List ℕ) → firstStray l f ≡ 49152 → Reads l f R → Draws l font R f
+  pub clean-drawn : (font f R : List ℕ) → firstStray l f ≡ frameLength → Reads l f R → Draws l font R f
   unfolding firstStray stray readByte read graphic
   clean-drawn font f R none reads k h =
       let i = owner l k in
       let j = dot l k / dots l in
       let v : ℕ → ℕ = λ n. getD f (i * breadth l + n * dots l) 0 in
-      let ok = both (shows l (getD f k 0)) (eqb (getD f k 0) (getD f (leftmost l k) 0)) (nowhere (stray l f) 49152 none k h) in
+      let ok = both-pass (shows l (getD f k 0)) (eqb (getD f k 0) (getD f (leftmost l k) 0)) (not-false _ (nowhere (stray l f) frameLength none k h)) in
       let same : getD f k 0 ≡ v j = eqb-true _ _ (ok .1) ∙ ap (λ (n : ℕ). getD f n 0) (left-at k) in
       same
       ∙ sym (element-back l v j (element-below l g (dot l k) (dot-below l k)) (ap (shows l) (sym same) ∙ ok .0))
@@ -143,8 +136,8 @@ module _ (l : Look) (g : graphics l ≡ true) where
       (lt-or-ge j (192 * width l))
 
   -- a frame has a stray pixel exactly where no strip draws it
-  pub no-strip : (font f : List ℕ) → (firstStray l f < 49152) ↔ ((S : List ℕ) → Bytes S → Draws l font S f → ⊥)
+  pub no-strip : (font f : List ℕ) → (firstStray l f < frameLength) ↔ ((S : List ℕ) → Bytes S → Draws l font S f → ⊥)
   no-strip font f = (
     λ h S _ d. omega (arith, drawn-clean font S f d),
-    λ no. ⊎-elim (λ h. h) (λ h. absurd (no (strip-of f) (strip-bytes f) (clean-drawn font f (strip-of f) (none-stray l f h) (strip-reads f)))) (lt-or-ge (firstStray l f) 49152),
+    λ no. ⊎-elim (λ h. h) (λ h. absurd (no (strip-of f) (strip-bytes f) (clean-drawn font f (strip-of f) (none-stray l f h) (strip-reads f)))) (lt-or-ge (firstStray l f) frameLength),
   )

@@ -12,6 +12,7 @@ use Rattle.paper.proofs.Fills.{lt-or-ge}
 use Rattle.settings.specs.declared.Look.{Look}
 use Rattle.settings.specs.Fields.{graphics, gm0}
 use Rattle.settings.specs.Modes.{dots}
+use Rattle.settings.specs.Refusals.{frameLength}
 use Rattle.pixel.specs.Dots.{digits}
 use Rattle.pixel.specs.Graphics.{count}
 use Rattle.pixel.specs.Picture.{breadth}
@@ -48,7 +49,7 @@ module _ {r n e : ℕ} (h : Shape r n e) where
   element-within j l = mul-lt-mul-of-pos-right l (h .some)
 
   -- a byte within its line
-  pub cell-within : (m c : ℕ) → m < 192 → c < 256 / (n * e) → m * 256 + c * (n * e) + n * e ≤ 49152
+  pub cell-within : (m c : ℕ) → m < 192 → c < 256 / (n * e) → m * 256 + c * (n * e) + n * e ≤ frameLength
   cell-within m c l k = omega (arith, mul-le-mul-right (n * e) k, suc-mul c (n * e), h .fills)
 
   -- a byte has 256 dots at most, and a line 32 bytes

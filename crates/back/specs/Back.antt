@@ -1,41 +1,41 @@
 -- Reading back: document 01's order 1, 3, 7, 8, 9, and the strip afterwards.
-use Prim.Native.Nat.{ℕ, _*_, _≤_}
+use Prim.Native.Nat.{ℕ, _≤_}
 use mathlib.Core.Path.{_≡_}
 use mathlib.Core.Bool.{true}
 use mathlib.Core.List.{List, [], _∷_, _++_}
-use lib.Dec.{eqb, ltb}
+use lib.Dec.{ltb}
 use lib.ListN.{length}
-use Rattle.paper.specs.Choose.{choose}
 use Rattle.paper.specs.Told.{Told, told, done}
 use Rattle.paper.specs.Order.{Check, check, firstOf}
-use Rattle.paper.specs.Written.{written}
+use Rattle.paper.specs.Written.{written, leaves}
 use Rattle.settings.specs.declared.Look.{Look}
 use Rattle.settings.specs.Fields.{graphics}
-use Rattle.settings.specs.Modes.{width}
-use Rattle.settings.specs.Refusals.{pinsAbove, textBack, shortStrip, shortFrame}
+use Rattle.settings.specs.Refusals.{stripLength, frameLength, pinsAbove, textBack, shortStrip, shortFrame}
 use Rattle.back.specs.Read.{readByte}
 use Rattle.back.specs.Stray.{firstStray}
 
--- the refusals, by the look and the lengths of strip and frame
-unfoldable pub lengthOrder : Look → ℕ → ℕ → List Check
-lengthOrder look strip frame = pinsAbove look ∷ textBack look ∷ shortStrip look strip ∷ shortFrame frame ∷ []
+-- reading back checks 1, 3, 7, 8, by the look and the lengths of strip and frame
+abbrev pub backLengths : Look → ℕ → ℕ → List Check
+backLengths look strip frame = pinsAbove look ∷ textBack look ∷ shortStrip look strip ∷ shortFrame frame ∷ []
 
--- then by the frame's pixels
-unfoldable pub strayOrder : Look → List ℕ → List Check
-strayOrder look frame = check (ltb (firstStray look frame) 49152) (told 9 (firstStray look frame) 0) ∷ []
+-- then 9, by the frame's pixels
+unfoldable pub backPixels : Look → List ℕ → List Check
+backPixels look frame = check (ltb (firstStray look frame) frameLength) (told 9 (firstStray look frame) 0) ∷ []
 
--- what is told: the first refusal that holds, else done with the strip's length
-unfoldable pub backTold : Look → ℕ → List ℕ → Told
-backTold look strip frame = firstOf (lengthOrder look strip (length frame) ++ strayOrder look frame) (done (192 * width look))
+-- the whole order, over what is lent, and what is told
+abbrev pub backOrder : Look → List ℕ → List ℕ → List Check
+backOrder look frame strip = backLengths look (length strip) (length frame) ++ backPixels look frame
 
--- the strip afterwards: where done, what the frame shows in its first 192 × W bytes; a refusal stores nothing
-unfoldable pub stripAfter : Look → List ℕ → List ℕ → List ℕ
-stripAfter look frame strip =
-    choose (eqb (backTold look (length strip) frame .number) 0) (written (readByte look frame) (192 * width look) strip) strip
+unfoldable pub backTold : Look → List ℕ → List ℕ → Told
+backTold look frame strip = firstOf (backOrder look frame strip) (done (stripLength look))
+
+-- done, what the frame shows is in the strip's first 192 × W bytes
+unfoldable pub stripBack : Look → List ℕ → List ℕ → List ℕ
+stripBack look frame strip = leaves (backTold look frame strip) (written (readByte look frame) (stripLength look) strip) strip
 
 -- what is known where no length is refused
-pub record Fits (look : Look) (strip frame : ℕ) : Type 0 where
+pub record BackFits (look : Look) (strip frame : ℕ) : Type 0 where
   pub pins-low : look .pins ≤ 63
   pub in-graphics : graphics look ≡ true
-  pub strip-long : 192 * width look ≤ strip
-  pub frame-long : 49152 ≤ frame
+  pub strip-long : stripLength look ≤ strip
+  pub frame-long : frameLength ≤ frame

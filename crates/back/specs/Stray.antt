@@ -9,6 +9,7 @@ use Rattle.paper.specs.First.{firstWhere}
 use Rattle.settings.specs.declared.Look.{Look}
 use Rattle.settings.specs.Fields.{gm0, css}
 use Rattle.settings.specs.Modes.{dots}
+use Rattle.settings.specs.Refusals.{frameLength}
 use Rattle.pixel.specs.Dots.{black}
 
 -- the mode and CSS show the colour
@@ -25,4 +26,4 @@ stray l frame k = not (shows l (getD frame k 0) && eqb (getD frame k 0) (getD fr
 
 -- the index of the first stray pixel, and 49,152 where there is none
 unfoldable pub firstStray : Look → List ℕ → ℕ
-firstStray l frame = firstWhere (stray l frame) 49152
+firstStray l frame = firstWhere (stray l frame) frameLength

@@ -2,20 +2,21 @@
 ghost use mathlib.Core.Path.{_≡_};
 ghost use mathlib.Core.Bool.{true, false};
 ghost use Prim.Native.Nat.{ℕ, _+_, _*_, _/_, _<_, _≤_};
-ghost use lib.Dec.{ltb};
 ghost use lib.ListN.{length, getD};
-ghost use Rattle.paper.specs.Written.{Filled, written};
-ghost use Rattle.paper.specs.Choose.{choose};
+ghost use Rattle.paper.specs.Written.{Filled};
 ghost use Rattle.paper.specs.Told.{done};
 ghost use Rattle.paper.specs.Order.{firstOf};
 ghost use Rattle.answer.specs.Told.{toldOf};
 ghost use Rattle.settings.specs.Fields.{graphics};
 ghost use Rattle.settings.specs.Modes.{width};
+ghost use Rattle.settings.specs.Refusals.{stripLength, frameLength};
 ghost use Rattle.back.specs.Read.{value, read, readByte};
 ghost use Rattle.back.specs.Steps.{Shape};
 ghost use Rattle.back.specs.Stray.{shows, stray, firstStray};
-ghost use Rattle.back.specs.Back.{lengthOrder, strayOrder, backTold, stripAfter, Fits};
+ghost use Rattle.back.specs.Back.{backLengths, backTold, stripBack};
 use answer::Answer;
+use answer::Spot;
+use settings::FRAME_LENGTH;
 use settings::Look;
 
 // Gathering a strip's bytes off a frame: each element by its leftmost pixel.
@@ -56,7 +57,7 @@ fn byte(values: usize, count: usize, dots: usize, frame: &[u8], at: usize) -> u8
 
 // The bytes of line n.
 fn line(values: usize, count: usize, dots: usize, frame: &[u8], n: usize, strip: &mut [u8])
-    requires { ⌜ Shape values count dots × (n < 192) × (49152 ≤ length (now frame)) × (192 * (256 / (count * dots)) ≤ length (now strip)) ⌝ }
+    requires { ⌜ Shape values count dots × (n < 192) × (frameLength ≤ length (now frame)) × (192 * (256 / (count * dots)) ≤ length (now strip)) ⌝ }
     ensures { λ _. ⌜ Filled (λ i. read values count dots (now (frame .entry)) (i * (count * dots))) (n * (256 / (count * dots))) (n * (256 / (count * dots)) + 256 / (count * dots)) (now (strip .entry)) (now (strip .exit)) ⌝ }
 {
     let breadth = count * dots;
@@ -70,7 +71,7 @@ fn line(values: usize, count: usize, dots: usize, frame: &[u8], n: usize, strip:
 
 // The bytes of all lines.
 fn lines(values: usize, count: usize, dots: usize, frame: &[u8], strip: &mut [u8])
-    requires { ⌜ Shape values count dots × (49152 ≤ length (now frame)) × (192 * (256 / (count * dots)) ≤ length (now strip)) ⌝ }
+    requires { ⌜ Shape values count dots × (frameLength ≤ length (now frame)) × (192 * (256 / (count * dots)) ≤ length (now strip)) ⌝ }
     ensures { λ _. ⌜ Filled (λ i. read values count dots (now (frame .entry)) (i * (count * dots))) 0 (192 * (256 / (count * dots))) (now (strip .entry)) (now (strip .exit)) ⌝ }
 {
     let mut n: usize = 0;
@@ -82,7 +83,7 @@ fn lines(values: usize, count: usize, dots: usize, frame: &[u8], strip: &mut [u8
 
 // The strip that a frame shows. Each call names its mode's numbers, so that it is compiled to its own moves.
 fn gather(look: Look, frame: &[u8], strip: &mut [u8])
-    requires { ⌜ (graphics look ≡ true) × (49152 ≤ length (now frame)) × (192 * width look ≤ length (now strip)) ⌝ }
+    requires { ⌜ (graphics look ≡ true) × (frameLength ≤ length (now frame)) × (192 * width look ≤ length (now strip)) ⌝ }
     ensures { λ _. ⌜ Filled (readByte look (now (frame .entry))) 0 (192 * width look) (now (strip .entry)) (now (strip .exit)) ⌝ }
 {
     let bits = settings::gm(look) % 2 == 1;
@@ -98,18 +99,6 @@ fn gather(look: Look, frame: &[u8], strip: &mut [u8])
         } else {
             lines(4, 4, 4, frame, strip);
         }
-    }
-}
-
-// The first bytes of what was gathered, into the strip.
-fn store(n: usize, bytes: &[u8], strip: &mut [u8])
-    requires { ⌜ (n ≤ length (now bytes)) × (n ≤ length (now strip)) ⌝ }
-    ensures { λ _. ⌜ Filled (λ i. getD (now (bytes .entry)) i 0) 0 n (now (strip .entry)) (now (strip .exit)) ⌝ }
-{
-    let mut i: usize = 0;
-    while i < n {
-        strip[i] = bytes[i];
-        i += 1;
     }
 }
 
@@ -138,11 +127,11 @@ fn stray_at(look: Look, frame: &[u8], k: usize) -> bool
 
 // The first stray pixel, looked for one by one.
 fn search(look: Look, frame: &[u8]) -> usize
-    requires { ⌜ (graphics look ≡ true) × (49152 ≤ length (now frame)) ⌝ }
+    requires { ⌜ (graphics look ≡ true) × (frameLength ≤ length (now frame)) ⌝ }
     ensures { λ r. ⌜ r ≡ firstStray look (now (frame .entry)) ⌝ }
 {
     let mut k: usize = 0;
-    while k < 49152 {
+    while k < FRAME_LENGTH {
         if stray_at(look, frame, k) {
             return k;
         }
@@ -153,12 +142,12 @@ fn search(look: Look, frame: &[u8]) -> usize
 
 // Whether two frames differ: no way out of the loop, so that it runs fast.
 fn differ(a: &[u8], b: &[u8]) -> bool
-    requires { ⌜ (49152 ≤ length (now a)) × (49152 ≤ length (now b)) ⌝ }
-    ensures { λ r. ⌜ (r ≡ false → (k : ℕ) → k < 49152 → getD (now (a .entry)) k 0 ≡ getD (now (b .entry)) k 0) ⌝ }
+    requires { ⌜ (frameLength ≤ length (now a)) × (frameLength ≤ length (now b)) ⌝ }
+    ensures { λ r. ⌜ (r ≡ false → (k : ℕ) → k < frameLength → getD (now (a .entry)) k 0 ≡ getD (now (b .entry)) k 0) ⌝ }
 {
     let mut found = false;
     let mut k: usize = 0;
-    while k < 49152 {
+    while k < FRAME_LENGTH {
         found = found | !(a[k] == b[k]);
         k += 1;
     }
@@ -167,57 +156,56 @@ fn differ(a: &[u8], b: &[u8]) -> bool
 
 // The first stray pixel, or 49,152. The strip is any; with the one gathered off the frame the search is spared where there is none.
 fn first_stray(look: Look, strip: &[u8], frame: &[u8]) -> usize
-    requires { ⌜ (look .pins ≤ 63) × (graphics look ≡ true) × (192 * width look ≤ length (now strip)) × (49152 ≤ length (now frame)) ⌝ }
+    requires { ⌜ (look .pins ≤ 63) × (graphics look ≡ true) × (192 * width look ≤ length (now strip)) × (frameLength ≤ length (now frame)) ⌝ }
     ensures { λ r. ⌜ r ≡ firstStray look (now (frame .entry)) ⌝ }
 {
-    let mut picture = [0u8; 49152];
+    let mut picture = [0u8; FRAME_LENGTH];
     // in graphics no font is read: the strip stands in its place
     frame::draw(look, strip, strip, &mut picture);
     if differ(frame, &picture) {
         return search(look, frame);
     }
-    49152
+    FRAME_LENGTH
 }
 
 // Reading back.
 
 // The answer, by the look and the two lengths.
 fn length_answer(look: Look, strip: usize, frame: usize) -> Answer
-    ensures { λ r. ⌜ toldOf r ≡ firstOf (lengthOrder look strip frame) (done (192 * width look)) ⌝ }
+    ensures { λ r. ⌜ toldOf r ≡ firstOf (backLengths look strip frame) (done (stripLength look)) ⌝ }
 {
-    let total = 192 * settings::width(look);
-    let mut answer = Answer::Done(total);
-    answer = answer::check(answer, 63 < look.pins, Answer::PinsAbove);
-    answer = answer::check(answer, !settings::graphics(look), Answer::TextBack);
-    answer = answer::check(answer, strip < total, Answer::ShortStrip);
-    answer::check(answer, frame < 49152, Answer::ShortFrame)
+    let mut answer = Answer::Done(settings::strip_length(look));
+    answer = settings::pins_above(answer, look);
+    answer = settings::text_back(answer, look);
+    answer = settings::short_strip(answer, look, strip);
+    settings::short_frame(answer, frame)
 }
 
 // The work, where no length is refused: the bytes are gathered aside, and stored once it is known that no pixel is stray.
 fn take(look: Look, frame: &[u8], strip: &mut [u8]) -> Answer
-    requires { ⌜ Fits look (length (now strip)) (length (now frame)) ⌝ }
-    ensures answer { λ r. ⌜ toldOf r ≡ firstOf (strayOrder look (now (frame .entry))) (done (192 * width look)) ⌝ }
-    ensures strip { λ r. ⌜ now (strip .exit) ≡ choose (ltb (firstStray look (now (frame .entry))) 49152) (now (strip .entry)) (written (readByte look (now (frame .entry))) (192 * width look) (now (strip .entry))) ⌝ }
+    requires { ⌜ firstOf (backLengths look (length (now strip)) (length (now frame))) (done (stripLength look)) .number ≡ 0 ⌝ }
+    ensures answer { λ r. ⌜ toldOf r ≡ backTold look (now (frame .entry)) (now (strip .entry)) ⌝ }
+    ensures stored { λ r. ⌜ now (strip .exit) ≡ stripBack look (now (frame .entry)) (now (strip .entry)) ⌝ }
 {
     let mut bytes = [0u8; 6144];
     gather(look, frame, &mut bytes);
     let k = first_stray(look, &bytes, frame);
-    if k < 49152 {
-        return Answer::Stray(k);
+    if k < FRAME_LENGTH {
+        return Answer::At(Spot::Stray, k);
     }
-    let length = 192 * settings::width(look);
-    store(length, &bytes, strip);
+    let length = settings::strip_length(look);
+    buffer::store(&bytes, length, strip);
     Answer::Done(length)
 }
 
 // Reads a frame back: done with the strip's length, and what the frame shows in that many bytes of the strip, or refused with the strip as it was.
 pub fn read_back(look: Look, frame: &[u8], strip: &mut [u8]) -> Answer
-    ensures answer { λ r. ⌜ toldOf r ≡ backTold look (length (now (strip .entry))) (now (frame .entry)) ⌝ }
-    ensures strip { λ r. ⌜ now (strip .exit) ≡ stripAfter look (now (frame .entry)) (now (strip .entry)) ⌝ }
+    ensures answer { λ r. ⌜ toldOf r ≡ backTold look (now (frame .entry)) (now (strip .entry)) ⌝ }
+    ensures strip { λ r. ⌜ now (strip .exit) ≡ stripBack look (now (frame .entry)) (now (strip .entry)) ⌝ }
 {
     let answer = length_answer(look, strip.len(), frame.len());
-    if let Answer::Done(_) = answer {
-        return take(look, frame, strip);
+    if answer::number(answer) != 0 {
+        return answer;
     }
-    answer
+    take(look, frame, strip)
 }

@@ -7,7 +7,7 @@ use lib.ListN.{length, getD}
 use Rattle.paper.specs.Choose.{choose}
 use Rattle.paper.specs.Told.{Told, done, refused}
 use Rattle.paper.specs.Order.{Check, check, firstOf}
-use Rattle.paper.specs.Written.{written}
+use Rattle.paper.specs.Written.{written, leaves}
 
 -- a bank of s rows and s columns has s × s places; the byte of address a in it lies at (a mod s) × s + floor(a / s)
 abbrev pub crossed : ℕ → ℕ → ℕ
@@ -39,7 +39,7 @@ chipTold k lent room = firstOf (chipOrder k lent room) (done 0)
 abbrev pub crossedByte : ℕ → List ℕ → ℕ → ℕ
 crossedByte s lent a = getD lent (crossedIn s a) 0
 
--- done, as many bytes as are lent are written, each from where it lies; a refusal stores nothing. The map is its own inverse
+-- done, as many bytes as are lent are written, each from where it lies. The map is its own inverse
 -- (`own-inverse`), so the same holds of both directions
 unfoldable pub chipAfter : ℕ → List ℕ → List ℕ → List ℕ
-chipAfter k lent room = choose (eqb (chipTold k (length lent) (length room) .number) 0) (written (crossedByte (2 ^ k) lent) (length lent) room) room
+chipAfter k lent room = leaves (chipTold k (length lent) (length room)) (written (crossedByte (2 ^ k) lent) (length lent) room) room

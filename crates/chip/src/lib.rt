@@ -1,5 +1,6 @@
 // Images straight from the chips: an image from what was read off the chips, and back, bank by bank from one buffer into a second.
 use answer::Answer;
+use answer::Later;
 ghost use mathlib.Core.Path.{_≡_};
 ghost use Prim.Native.Nat.{_+_, _-_, _*_, _%_, _<_, _≤_};
 ghost use lib.ListN.{length, getD};
@@ -25,8 +26,8 @@ fn chip_answer(k: usize, lent: usize, room: usize) -> Answer
     ensures { λ r. ⌜ toldOf r ≡ chipTold k lent room ⌝ }
 {
     let mut answer = Answer::Done(0);
-    answer = answer::check(answer, !fits(k, lent), Answer::OtherChip);
-    answer = answer::check(answer, room < lent, Answer::ShortDestination);
+    answer = answer::check(answer, !fits(k, lent), Answer::Later(Later::OtherChip));
+    answer = answer::check(answer, room < lent, Answer::Later(Later::ShortDestination));
     answer
 }
 
@@ -90,10 +91,11 @@ fn crossed(k: usize, lent: &[u8], room: &mut [u8]) -> Answer
     ensures bytes { λ r. ⌜ now (room .exit) ≡ chipAfter k (now (lent .entry)) (now (room .entry)) ⌝ }
 {
     let answer = chip_answer(k, lent.len(), room.len());
-    if let Answer::Done(_) = answer {
-        let side = 1 << k;
-        banks(lent, side, room);
+    if answer::number(answer) != 0 {
+        return answer;
     }
+    let side = 1 << k;
+    banks(lent, side, room);
     answer
 }
 

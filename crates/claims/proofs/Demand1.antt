@@ -4,13 +4,13 @@
 use Prim.Native.Nat.{ℕ, _^_, _≤_, _<_}
 use mathlib.Core.Path.{_≡_, refl, ap, _∙_}
 use mathlib.Core.Bool.{Bool, true, false}
-use mathlib.Core.List.{List, _++_}
+use mathlib.Core.List.{List}
 use mathlib.Core.Logic.{_↔_}
 use contract.Lifetimes.{Lfts}
 use denote.Ref.{now}
 use lib.Dec.{T, eqb}
 use lib.ListN.{length, getD}
-use borrow.Author.Tests.{eqb-true}
+use borrow.Author.Tests.{eqb-true, eqb-false}
 use Rattle.paper.specs.Told.{Told, done}
 use Rattle.paper.specs.Order.{Check, firstOf, HoldsFirst, NoneHolds, areRefusals}
 use Rattle.paper.specs.Written.{written}
@@ -24,14 +24,14 @@ use Rattle.settings.specs.Modes.{border}
 use Rattle.settings.specs.Refusals.{stripLength, frameLength}
 use Rattle.control.specs.Control.{played, playOrder, playTold}
 use Rattle.strip.specs.Fetch.{fetchedByte, fetchOrder, fetchTold, stripAfter}
-use Rattle.strip.proofs.Fetches.{accepted as fetch-accepted, strip-done, strip-refused, strip-same-length}
+use Rattle.strip.proofs.Fetches.{accepted as fetch-accepted, strip-done, strip-refused}
 use Rattle.pixel.specs.Picture.{picture}
 use Rattle.frame.specs.Draw.{drawOrder, drawTold}
 use Rattle.frame.proofs.Draws.{accepted as draw-accepted, frame-done, frame-refused}
 use Rattle.screen.specs.Show.{showOrder, showTold}
-use Rattle.screen.proofs.Shows.{fetch-done, draw-done, shown-done, shown-refused}
+use Rattle.screen.proofs.Shows.{fetched, drawn, shown-done, shown-refused}
 use Rattle.back.specs.Read.{readByte}
-use Rattle.back.specs.Back.{lengthOrder, strayOrder, backTold}
+use Rattle.back.specs.Back.{backPixels, backOrder, backTold}
 use Rattle.back.proofs.Backs.{back-accepted, strip-done as back-done, strip-kept}
 use Rattle.chip.specs.Chip.{chipOrder, chipTold, chipAfter, crossedByte}
 use Rattle.chip.proofs.Answers.{accepted as chip-accepted, room-done, room-refused}
@@ -58,7 +58,7 @@ ordered order value r e =
 
 -- a buffer that is written where the answer is done, and left where it is not
 guarded : {told : Told} (g : ℕ → ℕ) (named : ℕ) (old : List ℕ) {new : List ℕ} → (told .number ≡ 0 → (named ≤ length old) × (new ≡ written g named old))
-    → (eqb (told .number) 0 ≡ false → new ≡ old) → Guarded told named old new
+    → ((told .number ≡ 0 → ⊥) → new ≡ old) → Guarded told named old new
 guarded {told} g named old {new} wrote left = by (eqb (told .number) 0) refl
   where
     by : (b : Bool) → eqb (told .number) 0 ≡ b → Guarded told named old new
@@ -66,66 +66,66 @@ guarded {told} g named old {new} wrote left = by (eqb (told .number) 0) refl
         let n : told .number ≡ 0 = eqb-true (told .number) 0 t in
         let f = written-fills g named old (wrote n .0) in
         record { refused = λ no. absurd (no n); long = rw (wrote n .1) (f .long); past = λ k h. rw (wrote n .1) (f .after k h) }
-    by false t = record { refused = λ no. left t; long = rw (left t); past = λ k h. rw (left t) }
+    by false t =
+        let e = left (eqb-false (told .number) 0 t) in
+        record { refused = λ no. e; long = rw e; past = λ k h. rw e }
 
--- play lends nothing that it could write
+-- play is lent nothing that it could write
 pub play-demand : (κs : Lfts 1) (word : ℕ) (writes : Lent) (z : Answer) → Plays κs word writes z
     → Ordered (toldOf z) (playOrder word (now writes)) (played word (now writes))
 unfolding playTold
 play-demand κs word writes z p = ordered (playOrder word (now writes)) (played word (now writes)) tt p
 
 pub fetch-demand : (κs : Lfts 2) (s : Settings) (image strip : Lent) (z : Answer) (out : List ℕ) → Fetches κs s image strip z out
-    → Ordered (toldOf z) (fetchOrder s (length (now image)) (length (now strip))) (stripLength (s .look)) × Guarded (toldOf z) (stripLength (s .look)) (now strip) out
+    → Ordered (toldOf z) (fetchOrder s (now image) (now strip)) (stripLength (s .look)) × Guarded (toldOf z) (stripLength (s .look)) (now strip) out
 unfolding fetchTold
 fetch-demand κs s image strip z out p = (
-  ordered (fetchOrder s (length (now image)) (length (now strip))) (stripLength (s .look)) tt (p .0),
+  ordered (fetchOrder s (now image) (now strip)) (stripLength (s .look)) tt (p .0),
   guarded (fetchedByte s (now image)) (stripLength (s .look)) (now strip)
-      (λ e. let d = rw (p .0) at e in (fetch-accepted s (length (now image)) (length (now strip)) d .1, p .1 ∙ strip-done s (now image) (now strip) d))
-      (λ e. p .1 ∙ strip-refused s (now image) (now strip) (rw (p .0) at e)),
+      (λ e. let d = rw (p .0) at e in (fetch-accepted s (now image) (now strip) d .1, p .1 ∙ strip-done s (now image) (now strip) d))
+      (λ no. p .1 ∙ strip-refused s (now image) (now strip) (λ e. no (rw (p .0) e))),
 )
 
 pub draw-demand : (κs : Lfts 3) (l : Look) (font strip frame : Lent) (z : Answer) (out : List ℕ) → Draws κs l font strip frame z out
-    → Ordered (toldOf z) (drawOrder l (length (now font)) (length (now strip)) (length (now frame))) (border l) × Guarded (toldOf z) frameLength (now frame) out
-unfolding drawTold drawOrder
+    → Ordered (toldOf z) (drawOrder l (now font) (now strip) (now frame)) (border l) × Guarded (toldOf z) frameLength (now frame) out
+unfolding drawTold
 draw-demand κs l font strip frame z out p = (
-  ordered (drawOrder l (length (now font)) (length (now strip)) (length (now frame))) (border l) tt (p .0),
+  ordered (drawOrder l (now font) (now strip) (now frame)) (border l) tt (p .0),
   guarded (picture l (now font) (now strip)) frameLength (now frame)
-      (λ e. let d = rw (p .0) at e in (draw-accepted l (length (now font)) (length (now strip)) (length (now frame)) d .frame-long, p .1 ∙ frame-done l (now font) (now strip) (now frame) d))
-      (λ e. p .1 ∙ frame-refused l (now font) (now strip) (now frame) (rw (p .0) at e)),
+      (λ e. let d = rw (p .0) at e in (draw-accepted l (now font) (now strip) (now frame) d .frame-long, p .1 ∙ frame-done l (now font) (now strip) (now frame) d))
+      (λ no. p .1 ∙ frame-refused l (now font) (now strip) (now frame) (λ e. no (rw (p .0) e))),
 )
 
 -- both buffers of both at once
 pub show-demand : (κs : Lfts 4) (s : Settings) (image font strip frame : Lent) (z : Answer) (bytes pixels : List ℕ) → Shows κs s image font strip frame z bytes pixels
-    → Ordered (toldOf z) (showOrder s (length (now image)) (length (now font)) (length (now strip)) (length (now frame))) (border (s .look))
+    → Ordered (toldOf z) (showOrder s (now image) (now font) (now strip) (now frame)) (border (s .look))
     × Guarded (toldOf z) (stripLength (s .look)) (now strip) bytes
     × Guarded (toldOf z) frameLength (now frame) pixels
 unfolding showTold
 show-demand κs s image font strip frame z bytes pixels p = (
-  ordered (showOrder s (length (now image)) (length (now font)) (length (now strip)) (length (now frame))) (border (s .look)) tt (p .0),
+  ordered (showOrder s (now image) (now font) (now strip) (now frame)) (border (s .look)) tt (p .0),
   guarded (fetchedByte s (now image)) (stripLength (s .look)) (now strip)
       (λ e. let d = rw (p .0) at e in
-      let f = fetch-done s (length (now image)) (length (now font)) (length (now strip)) (length (now frame)) d in
-      (fetch-accepted s (length (now image)) (length (now strip)) f .1, p .1 .0 ∙ shown-done s (now image) (now font) (now strip) (now frame) _ _ d ∙ strip-done s (now image) (now strip) f))
-      (λ e. p .1 .0 ∙ shown-refused s (now image) (now font) (now strip) (now frame) _ _ (rw (p .0) at e)),
+      let f = fetched s (now image) (now font) (now strip) (now frame) d in
+      (fetch-accepted s (now image) (now strip) f .1, p .1 .0 ∙ shown-done s (now image) (now font) (now strip) (now frame) d .0 ∙ strip-done s (now image) (now strip) f))
+      (λ no. p .1 .0 ∙ shown-refused s (now image) (now font) (now strip) (now frame) (λ e. no (rw (p .0) e)) .0),
   guarded (picture (s .look) (now font) (stripAfter s (now image) (now strip))) frameLength (now frame)
       (λ e. let d = rw (p .0) at e in
-      let long : length (stripAfter s (now image) (now strip)) ≡ length (now strip) = strip-same-length s (now image) (now strip) in
-      let f : drawTold (s .look) (length (now font)) (length (stripAfter s (now image) (now strip))) (length (now frame)) .number ≡ 0 =
-      rw long (draw-done s (length (now image)) (length (now font)) (length (now strip)) (length (now frame)) d) in (
-        draw-accepted (s .look) (length (now font)) (length (stripAfter s (now image) (now strip))) (length (now frame)) f .frame-long,
-        p .1 .1 ∙ shown-done s (now image) (now font) (now strip) (now frame) _ _ d ∙ frame-done (s .look) (now font) (stripAfter s (now image) (now strip)) (now frame) f,
+      let f = drawn s (now image) (now font) (now strip) (now frame) d in (
+        draw-accepted (s .look) (now font) (stripAfter s (now image) (now strip)) (now frame) f .frame-long,
+        p .1 .1 ∙ shown-done s (now image) (now font) (now strip) (now frame) d .1 ∙ frame-done (s .look) (now font) (stripAfter s (now image) (now strip)) (now frame) f,
       ))
-      (λ e. p .1 .1 ∙ shown-refused s (now image) (now font) (now strip) (now frame) _ _ (rw (p .0) at e)),
+      (λ no. p .1 .1 ∙ shown-refused s (now image) (now font) (now strip) (now frame) (λ e. no (rw (p .0) e)) .1),
 )
 
 pub back-demand : (κs : Lfts 2) (l : Look) (frame strip : Lent) (z : Answer) (out : List ℕ) → ReadsBack κs l frame strip z out
-    → Ordered (toldOf z) (lengthOrder l (length (now strip)) (length (now frame)) ++ strayOrder l (now frame)) (stripLength l) × Guarded (toldOf z) (stripLength l) (now strip) out
-unfolding backTold lengthOrder strayOrder
+    → Ordered (toldOf z) (backOrder l (now frame) (now strip)) (stripLength l) × Guarded (toldOf z) (stripLength l) (now strip) out
+unfolding backTold backPixels
 back-demand κs l frame strip z out p = (
-  ordered (lengthOrder l (length (now strip)) (length (now frame)) ++ strayOrder l (now frame)) (stripLength l) tt (p .0),
+  ordered (backOrder l (now frame) (now strip)) (stripLength l) tt (p .0),
   guarded (readByte l (now frame)) (stripLength l) (now strip)
       (λ e. let d = rw (p .0) at e in (back-accepted l (now frame) (now strip) d .0 .strip-long, p .1 ∙ back-done l (now frame) (now strip) d))
-      (λ e. p .1 ∙ strip-kept l (now frame) (now strip) (rw (p .0) at e)),
+      (λ no. p .1 ∙ strip-kept l (now frame) (now strip) (λ e. no (rw (p .0) e))),
 )
 
 -- both directions of the chips promise the same of what is lent and the room
@@ -136,7 +136,7 @@ chip-demand k lent room z out p = (
   ordered (chipOrder k (length (now lent)) (length (now room))) 0 tt (p .0),
   guarded (crossedByte (2 ^ k) (now lent)) (length (now lent)) (now room)
       (λ e. let d = rw (p .0) at e in (chip-accepted k (length (now lent)) (length (now room)) d .1, p .1 ∙ room-done k (now lent) (now room) d))
-      (λ e. p .1 ∙ room-refused k (now lent) (now room) (rw (p .0) at e)),
+      (λ no. p .1 ∙ room-refused k (now lent) (now room) (λ e. no (rw (p .0) e))),
 )
 
 pub to-image-demand : (κs : Lfts 2) (k : ℕ) (chip image : Lent) (z : Answer) (out : List ℕ) → ToImage κs k chip image z out

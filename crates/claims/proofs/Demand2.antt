@@ -17,6 +17,7 @@ use lib.ListN.{length, getD}
 use Rattle.paper.specs.Told.{Told, told, done}
 use Rattle.paper.specs.Choose.{choose}
 use Rattle.paper.specs.Order.{firstOf}
+use Rattle.paper.specs.Written.{Bytes}
 use Rattle.paper.proofs.Orders.{done-says}
 use Rattle.paper.proofs.Fills.{written-fills}
 use Rattle.answer.specs.declared.Answer.{Answer}
@@ -30,16 +31,15 @@ use Rattle.control.specs.Control.{played, wordAfter, playOrder, playTold}
 use Rattle.control.proofs.Plays.{played-more}
 use Rattle.strip.specs.Fetch.{placeOf, fetchPlace, fetchedByte, fetchOrder, fetchTold, stripAfter}
 use Rattle.strip.proofs.Windows.{strip-byte}
-use Rattle.strip.proofs.Fetches.{strip-same-length}
 use Rattle.pixel.specs.Picture.{picture}
 use Rattle.frame.specs.Draw.{drawOrder, drawTold}
 use Rattle.frame.proofs.Draws.{accepted, frame-done}
 use Rattle.screen.specs.Show.{showOrder, showTold}
-use Rattle.screen.proofs.Shows.{fetch-done, draw-done, shown-done}
+use Rattle.screen.proofs.Shows.{fetched, drawn, shown-done}
 use Rattle.back.specs.Stray.{firstStray}
-use Rattle.back.specs.Back.{lengthOrder, strayOrder}
+use Rattle.back.specs.Back.{backLengths, backPixels}
 use Rattle.back.proofs.Backs.{back-accepted, told-passed, strip-done as back-done}
-use Rattle.back.proofs.RoundTrip.{Bytes, Draws as DrawnBy, written-reads, drawn-read, no-strip}
+use Rattle.back.proofs.RoundTrip.{Draws as DrawnBy, written-reads, drawn-read, no-strip}
 use Rattle.back.proofs.Trips.{drawn-is-read, read-as-drawn, read-is-drawn, drawn-as-read}
 use Rattle.text.specs.Code.{Longest}
 use Rattle.grammar.specs.Sheet.{nl, Fields, ValidSheet, front, render, sheets}
@@ -87,7 +87,7 @@ strip-bytes κs s image strip z out p d n c hn hc =
 pub strip-long : (κs : Lfts 2) (s : Settings) (image strip : Lent) (z : Answer) (out : List ℕ) → Fetches κs s image strip z out → Done z → value z ≡ stripLength (s .look)
 unfolding fetchTold
 strip-long κs s image strip z out p d =
-    ap (λ (t : Told). t .value) (p .0 ∙ done-says (done (stripLength (s .look))) refl (fetchOrder s (length (now image)) (length (now strip))) tt (rw (p .0) at d))
+    ap (λ (t : Told). t .value) (p .0 ∙ done-says (done (stripLength (s .look))) refl (fetchOrder s (now image) (now strip)) tt (rw (p .0) at d))
 
 -- (iii) Each pixel is that of the picture, and the value told is the border.
 pub frame-pixels : (κs : Lfts 3) (l : Look) (font strip frame : Lent) (z : Answer) (out : List ℕ) → Draws κs l font strip frame z out → Done z
@@ -95,39 +95,37 @@ pub frame-pixels : (κs : Lfts 3) (l : Look) (font strip frame : Lent) (z : Answ
 frame-pixels κs l font strip frame z out p d k h =
     let e = rw (p .0) at d in
     rw (p .1, frame-done l (now font) (now strip) (now frame) e)
-    (written-fills (picture l (now font) (now strip)) frameLength (now frame) (accepted l (length (now font)) (length (now strip)) (length (now frame)) e .frame-long) .is k (omega arith) h)
+    (written-fills (picture l (now font) (now strip)) frameLength (now frame) (accepted l (now font) (now strip) (now frame) e .frame-long) .is k (omega arith) h)
 
 pub frame-border : (κs : Lfts 3) (l : Look) (font strip frame : Lent) (z : Answer) (out : List ℕ) → Draws κs l font strip frame z out → Done z → value z ≡ border l
-unfolding drawTold drawOrder
+unfolding drawTold
 frame-border κs l font strip frame z out p d =
-    ap (λ (t : Told). t .value) (p .0 ∙ done-says (done (border l)) refl (drawOrder l (length (now font)) (length (now strip)) (length (now frame))) tt (rw (p .0) at d))
+    ap (λ (t : Told). t .value) (p .0 ∙ done-says (done (border l)) refl (drawOrder l (now font) (now strip) (now frame)) tt (rw (p .0) at d))
 
 -- Both at once gives the same strip, the picture of that strip, and the border.
 module _ (κs : Lfts 4) (s : Settings) (image font strip frame : Lent) (z : Answer) (bytes pixels : List ℕ) (p : Shows κs s image font strip frame z bytes pixels) (d : Done z) where
-  told-done : showTold s (length (now image)) (length (now font)) (length (now strip)) (length (now frame)) .number ≡ 0
+  told-done : showTold s (now image) (now font) (now strip) (now frame) .number ≡ 0
   told-done = rw (p .0) at d
 
   strip-left : bytes ≡ stripAfter s (now image) (now strip)
-  strip-left = p .1 .0 ∙ shown-done s (now image) (now font) (now strip) (now frame) _ _ told-done
+  strip-left = p .1 .0 ∙ shown-done s (now image) (now font) (now strip) (now frame) told-done .0
 
   pub shown-byte : (k : ℕ) → k < stripLength (s .look) → getD bytes k 0 ≡ fetchedByte s (now image) k
-  shown-byte k h = rw strip-left (strip-byte s (now image) (now strip) (fetch-done s (length (now image)) (length (now font)) (length (now strip)) (length (now frame)) told-done) k h)
+  shown-byte k h = rw strip-left (strip-byte s (now image) (now strip) (fetched s (now image) (now font) (now strip) (now frame) told-done) k h)
 
   pub shown-pixel : (k : ℕ) → k < frameLength → getD pixels k 0 ≡ picture (s .look) (now font) bytes k
   shown-pixel k h =
-      let long = strip-same-length s (now image) (now strip) in
-      let e : drawTold (s .look) (length (now font)) (length (stripAfter s (now image) (now strip))) (length (now frame)) .number ≡ 0 =
-      rw long (draw-done s (length (now image)) (length (now font)) (length (now strip)) (length (now frame)) told-done) in
-      let w = p .1 .1 ∙ shown-done s (now image) (now font) (now strip) (now frame) _ _ told-done ∙ frame-done (s .look) (now font) (stripAfter s (now image) (now strip)) (now frame) e in
+      let e = drawn s (now image) (now font) (now strip) (now frame) told-done in
+      let w = p .1 .1 ∙ shown-done s (now image) (now font) (now strip) (now frame) told-done .1 ∙ frame-done (s .look) (now font) (stripAfter s (now image) (now strip)) (now frame) e in
       rw (w, strip-left)
       (written-fills (picture (s .look) (now font) (stripAfter s (now image) (now strip))) frameLength (now frame)
-      (accepted (s .look) (length (now font)) (length (stripAfter s (now image) (now strip))) (length (now frame)) e .frame-long) .is k (omega arith) h)
+      (accepted (s .look) (now font) (stripAfter s (now image) (now strip)) (now frame) e .frame-long) .is k (omega arith) h)
 
   pub shown-border : value z ≡ border (s .look)
   unfolding showTold
   shown-border =
       ap (λ (t : Told). t .value)
-      (p .0 ∙ done-says (done (border (s .look))) refl (showOrder s (length (now image)) (length (now font)) (length (now strip)) (length (now frame))) tt (rw (p .0) at d))
+      (p .0 ∙ done-says (done (border (s .look))) refl (showOrder s (now image) (now font) (now strip) (now frame)) tt (rw (p .0) at d))
 
 -- (iv) In graphics, what `draw` leaves `read_back` accepts, and gives the strip that was drawn.
 pub drawn-read-back : (κs : Lfts 3) (κs′ : Lfts 2) (l : Look) (font strip frame back : Lent) (z z′ : Answer) (out out′ : List ℕ) (drawn : Lent)
@@ -166,12 +164,12 @@ nine-by false k v = (λ e. absurd (omega arith), λ e. let z : _≡_ {A = ℕ} 0
 
 -- Where the lengths are right, 9 is told exactly if no strip draws the frame, at the first pixel that is stray.
 pub nine-exactly : (κs : Lfts 2) (l : Look) (font : List ℕ) (frame strip : Lent) (z : Answer) (out : List ℕ) → ReadsBack κs l frame strip z out → graphics l ≡ true
-    → firstOf (lengthOrder l (length (now strip)) (length (now frame))) (done (stripLength l)) .number ≡ 0
+    → firstOf (backLengths l (length (now strip)) (length (now frame))) (done (stripLength l)) .number ≡ 0
     → ((toldOf z .number ≡ 9) ↔ ((S : List ℕ) → Bytes S → DrawnBy l font S (now frame) → ⊥)) × (toldOf z .number ≡ 9 → toldOf z .place ≡ firstStray l (now frame))
-unfolding strayOrder
+unfolding backPixels
 nine-exactly κs l font frame strip z out p g lengths =
     let t = p .0 ∙ told-passed l (now frame) (now strip) lengths in
-    let n = nine-by (ltb (firstStray l (now frame)) 49152) (firstStray l (now frame)) (stripLength l) in
+    let n = nine-by (ltb (firstStray l (now frame)) frameLength) (firstStray l (now frame)) (stripLength l) in
     let m = no-strip l g font (now frame) in (
       (λ e. m .0 (ltb-true _ _ (n .0 (rw t at e))), λ none. rw t (n .1 (lt-ltb _ _ (m .1 none)))),
       λ e. rw (t, n .0 (rw t at e)),

@@ -9,17 +9,18 @@ use mathlib.Core.Logic.{_↔_}
 use contract.Lifetimes.{Lfts}
 use denote.Ref.{now}
 use lib.ListN.{length, getD}
+use Rattle.paper.specs.Written.{Bytes}
 use Rattle.answer.specs.declared.Answer.{Answer}
 use Rattle.answer.proofs.Answers.{one-answer}
 use Rattle.settings.specs.declared.Settings.{Settings}
 use Rattle.settings.specs.Fields.{graphics}
 use Rattle.settings.specs.Refusals.{stripLength, frameLength}
-use Rattle.strip.specs.Fetch.{fetchPlace, Fetched, stripAfter}
-use Rattle.strip.proofs.Windows.{same-strip}
+use Rattle.strip.specs.Fetch.{fetchPlace, Fetched}
+use Rattle.strip.proofs.Windows.{same-told, same-strip}
 use Rattle.pixel.specs.Picture.{owner, picture}
 use Rattle.pixel.proofs.Owners.{owner-below, depends}
 use Rattle.pixel.proofs.Shows.{shows}
-use Rattle.screen.specs.Show.{shown}
+use Rattle.screen.proofs.Shows.{same-shown}
 use Rattle.claims.proofs.Calls.{Lent, Fetches, Shows}
 use Rattle.claims.proofs.Demand1.{show-demand}
 use Rattle.claims.proofs.Demand2.{Done, shown-byte, shown-pixel}
@@ -29,12 +30,10 @@ pub fetch-window : (s : Settings) (κs κs′ : Lfts 2) (image image′ strip st
     → length (now image) ≡ length (now image′) → now strip ≡ now strip′
     → ((a : ℕ) → Fetched s (length (now image)) a → getD (now image) a 0 ≡ getD (now image′) a 0)
     → Fetches κs s image strip z out → Fetches κs′ s image′ strip′ z′ out′ → (z ≡ z′) × (out ≡ out′)
-fetch-window s κs κs′ image image′ strip strip′ z z′ out out′ long same agree p q =
-    (one-answer (p .0) (q .0 ∙ rw (long, same)), p .1 ∙ rw (same-strip s (now image) (now image′) (now strip) long agree, same) (sym (q .1)))
-
--- what a lent slice of bytes holds
-abbrev pub Bytes : List ℕ → Type 0
-Bytes l = (k : ℕ) → getD l k 0 < 256
+fetch-window s κs κs′ image image′ strip strip′ z z′ out out′ long same agree p q = (
+  one-answer (p .0 ∙ same-told s (now image) (now image′) (now strip) long agree) (q .0 ∙ rw same),
+  p .1 ∙ rw (same-strip s (now image) (now image′) (now strip) long agree, same) (sym (q .1)),
+)
 
 module _
     (s : Settings)
@@ -43,21 +42,17 @@ module _
     (z z′ : Answer) (bytes bytes′ pixels pixels′ : List ℕ)
     (p : Shows κs s image font strip frame z bytes pixels) (q : Shows κs′ s image′ font′ strip′ frame′ z′ bytes′ pixels′)
   where
-    same-answer : z ≡ z′
-    same-answer = one-answer (p .0) (q .0 ∙ rw (long, same-font, same-strips, same-frames))
-
     -- First half: images that agree at the fetched places give the same answer, strip and frame.
     pub window : ((a : ℕ) → Fetched s (length (now image)) a → getD (now image) a 0 ≡ getD (now image′) a 0) → (z ≡ z′) × (bytes ≡ bytes′) × (pixels ≡ pixels′)
-    unfolding shown
     window agree =
-        let e : stripAfter s (now image) (now strip) ≡ stripAfter s (now image′) (now strip) = same-strip s (now image) (now image′) (now strip) long agree in
-        (same-answer, p .1 .0 ∙ rw (e, long, same-font, same-strips, same-frames) (sym (q .1 .0)), p .1 .1 ∙ rw (e, long, same-font, same-strips, same-frames) (sym (q .1 .1)))
+        let e = same-shown s (now image) (now image′) (now font) (now strip) (now frame) long agree in (
+          one-answer (p .0 ∙ e .0) (q .0 ∙ rw (same-font, same-strips, same-frames)),
+          p .1 .0 ∙ e .1 ∙ rw (same-font, same-strips, same-frames) (sym (q .1 .0)),
+          p .1 .1 ∙ e .2 ∙ rw (same-font, same-strips, same-frames) (sym (q .1 .1)),
+        )
 
-    -- Second half, where the calls are done. The place of fetch k is the same in both images.
-    module _ (d : Done z) where
-      d′ : Done z′
-      d′ = rw same-answer at d
-
+    -- Second half, where both calls are done. The place of fetch k is the same in both images.
+    module _ (d : Done z) (d′ : Done z′) where
       byte : (k : ℕ) → k < stripLength (s .look) → getD bytes k 0 ≡ getD (now image) (fetchPlace s (length (now image)) k) 0
       byte = shown-byte κs s image font strip frame z bytes pixels p d
 

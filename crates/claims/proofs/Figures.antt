@@ -4,9 +4,9 @@ use mathlib.Core.Bool.{Bool, true, false, _&&_}
 use mathlib.Core.List.{List, [], _∷_, _++_}
 use lib.Dec.{T, eqb}
 use Rattle.paper.specs.Told.{Told}
-use Rattle.settings.specs.declared.Settings.{Settings}
+use Rattle.settings.specs.Fields.{lookOf, settingsOf}
 use Rattle.settings.specs.Modes.{width, dots as elementDots}
-use Rattle.counter.specs.Counter.{addressOf, lineStart, bytesOn, advance, carry, clear, start}
+use Rattle.counter.specs.Counter.{addressOf, lineStart, bytesOn, advance, carry, fall, clear, start}
 use Rattle.pixel.specs.Dots.{bit, oneBit, twoBits}
 use Rattle.pixel.specs.Graphics.{element, graphic}
 use Rattle.pixel.specs.Text.{lit, ink, block, letter, pattern, inverted}
@@ -35,10 +35,7 @@ allRight (f ∷ fs) = same (f .given) (f .paper) && allRight fs
 abbrev numbers : Told → List ℕ
 numbers t = t .number ∷ t .place ∷ t .value ∷ []
 
--- settings by their word and pin byte; CG1, RG6 and text with CSS 0
-abbrev settings : ℕ → ℕ → Settings
-settings w p = record { word = w; look = record { pins = p } }
-
+-- the pins of CG1, RG6 and text with CSS 0
 abbrev cg1 : ℕ
 cg1 = 0x20
 
@@ -55,7 +52,7 @@ rg6buff = 0x2F
 -- the first n dots of a byte on a line, the font empty
 abbrev dots : ℕ → ℕ → ℕ → ℕ → List ℕ
 dots p b line zero = []
-dots p b line (suc n) = dots p b line n ++ (pixel (record { pins = p }) [] b line n ∷ [])
+dots p b line (suc n) = dots p b line n ++ (pixel (lookOf p) [] b line n ∷ [])
 
 pub figures : List Figure
 figures =
@@ -65,11 +62,11 @@ figures =
     ∷ figure (numbers (playTold 0xFFFF (0xFFC0 ∷ []))) (0 ∷ 0 ∷ 0xFFFE ∷ [])
     ∷ figure (numbers (playTold 0x0000 (0xFFC1 ∷ 0xFFBF ∷ []))) (10 ∷ 1 ∷ 0x0000 ∷ [])
     -- P5 to P9: addresses
-    ∷ figure (addressOf (settings 0x0011 cg1) 2 15 ∷ addressOf (settings 0x0011 cg1) 3 0 ∷ addressOf (settings 0x0011 cg1) 191 15 ∷ []) (0x040F ∷ 0x0410 ∷ 0x07FF ∷ [])
-    ∷ figure (addressOf (settings 0x0000 text) 12 0 ∷ addressOf (settings 0x0000 text) 191 31 ∷ []) (0x0020 ∷ 0x01FF ∷ [])
-    ∷ figure (addressOf (settings 0x03FE rg6) 15 31 ∷ addressOf (settings 0x03FE rg6) 16 0 ∷ []) (0xFFFF ∷ 0x0000 ∷ [])
-    ∷ figure (addressOf (settings 0x0000 cg1) 100 0 ∷ []) (0x0000 ∷ [])
-    ∷ figure (addressOf (settings 0x0001 text) 0 16 ∷ addressOf (settings 0x0001 text) 1 16 ∷ []) (0x0000 ∷ 0x0010 ∷ [])
+    ∷ figure (addressOf (settingsOf 0x0011 cg1) 2 15 ∷ addressOf (settingsOf 0x0011 cg1) 3 0 ∷ addressOf (settingsOf 0x0011 cg1) 191 15 ∷ []) (0x040F ∷ 0x0410 ∷ 0x07FF ∷ [])
+    ∷ figure (addressOf (settingsOf 0x0000 text) 12 0 ∷ addressOf (settingsOf 0x0000 text) 191 31 ∷ []) (0x0020 ∷ 0x01FF ∷ [])
+    ∷ figure (addressOf (settingsOf 0x03FE rg6) 15 31 ∷ addressOf (settingsOf 0x03FE rg6) 16 0 ∷ []) (0xFFFF ∷ 0x0000 ∷ [])
+    ∷ figure (addressOf (settingsOf 0x0000 cg1) 100 0 ∷ []) (0x0000 ∷ [])
+    ∷ figure (addressOf (settingsOf 0x0001 text) 0 16 ∷ addressOf (settingsOf 0x0001 text) 1 16 ∷ []) (0x0000 ∷ 0x0010 ∷ [])
     -- P10 to P12: the dots of a byte
     ∷ figure (dots cg1 0x1B 0 16) (0 ∷ 0 ∷ 0 ∷ 0 ∷ 1 ∷ 1 ∷ 1 ∷ 1 ∷ 2 ∷ 2 ∷ 2 ∷ 2 ∷ 3 ∷ 3 ∷ 3 ∷ 3 ∷ [])
     ∷ figure (dots rg6buff 0xA5 0 8) (4 ∷ 8 ∷ 4 ∷ 8 ∷ 8 ∷ 4 ∷ 8 ∷ 4 ∷ [])
@@ -77,5 +74,5 @@ figures =
     ∷ []
 
 pub figures-right : T (allRight figures)
-unfolding figures playTold played firstElsewhere wordAfter withBit addressOf lineStart bytesOn advance carry clear start width elementDots pixel graphic element oneBit bit twoBits lit ink block letter pattern inverted
+unfolding figures playTold played firstElsewhere wordAfter withBit addressOf lineStart bytesOn advance carry fall clear start width elementDots pixel graphic element oneBit bit twoBits lit ink block letter pattern inverted
 figures-right = tt

@@ -3,6 +3,7 @@ use mathlib.Core.Path.{_≡_, refl}
 use mathlib.Core.List.{List, [], _∷_, map}
 use Rattle.paper.specs.Fixes.{Operation, AllFix, none, _&_}
 use Rattle.answer.proofs.Unique as answer
+use Rattle.buffer.proofs.Unique as buffer
 use Rattle.settings.proofs.Unique as settings
 use Rattle.control.proofs.Unique as control
 use Rattle.counter.proofs.Unique as counter
@@ -23,19 +24,25 @@ operations =
     ∷ answer.place-op
     ∷ answer.value-op
     ∷ answer.check-op
+    ∷ buffer.store-op
     ∷ settings.video-mode-op
     ∷ settings.offset-op
-    ∷ settings.fast-op
     ∷ settings.graphics-op
-    ∷ settings.external-op
     ∷ settings.gm-op
     ∷ settings.css-op
     ∷ settings.width-op
     ∷ settings.dots-op
     ∷ settings.border-op
-    ∷ settings.font-size-op
     ∷ settings.mode-name-op
-    ∷ settings.image-fits-op
+    ∷ settings.strip-length-op
+    ∷ settings.pins-above-op
+    ∷ settings.external-text-op
+    ∷ settings.text-back-op
+    ∷ settings.fast-rate-op
+    ∷ settings.image-length-op
+    ∷ settings.font-length-op
+    ∷ settings.short-strip-op
+    ∷ settings.short-frame-op
     ∷ control.play-op
     ∷ counter.first-op
     ∷ counter.pass-op
@@ -70,19 +77,25 @@ all-fix =
     & answer.place-fixes
     & answer.value-fixes
     & answer.check-fixes
+    & buffer.store-fixes
     & settings.video-mode-fixes
     & settings.offset-fixes
-    & settings.fast-fixes
     & settings.graphics-fixes
-    & settings.external-fixes
     & settings.gm-fixes
     & settings.css-fixes
     & settings.width-fixes
     & settings.dots-fixes
     & settings.border-fixes
-    & settings.font-size-fixes
     & settings.mode-name-fixes
-    & settings.image-fits-fixes
+    & settings.strip-length-fixes
+    & settings.pins-above-fixes
+    & settings.external-text-fixes
+    & settings.text-back-fixes
+    & settings.fast-rate-fixes
+    & settings.image-length-fixes
+    & settings.font-length-fixes
+    & settings.short-strip-fixes
+    & settings.short-frame-fixes
     & control.play-fixes
     & counter.first-fixes
     & counter.pass-fixes
@@ -116,19 +129,25 @@ pub named : map (λ o. o .key) operations
     ∷ "answer::place"
     ∷ "answer::value"
     ∷ "answer::check"
+    ∷ "buffer::store"
     ∷ "settings::video_mode"
     ∷ "settings::offset"
-    ∷ "settings::fast"
     ∷ "settings::graphics"
-    ∷ "settings::external"
     ∷ "settings::gm"
     ∷ "settings::css"
     ∷ "settings::width"
     ∷ "settings::dots"
     ∷ "settings::border"
-    ∷ "settings::font_size"
     ∷ "settings::mode_name"
-    ∷ "settings::image_fits"
+    ∷ "settings::strip_length"
+    ∷ "settings::pins_above"
+    ∷ "settings::external_text"
+    ∷ "settings::text_back"
+    ∷ "settings::fast_rate"
+    ∷ "settings::image_length"
+    ∷ "settings::font_length"
+    ∷ "settings::short_strip"
+    ∷ "settings::short_frame"
     ∷ "control::play"
     ∷ "counter::first"
     ∷ "counter::Counter::pass"

@@ -7,13 +7,14 @@ use mathlib.Core.Logic.{_↔_}
 use native.Mathlib.Omega.{arith}
 use contract.Lifetimes.{Lfts}
 use denote.Ref.{now}
-use lib.ListN.{length, getD}
+use lib.ListN.{length, getD, replicate}
 use Rattle.paper.specs.Told.{Told}
 use Rattle.paper.specs.Order.{NoneHolds}
+use Rattle.paper.specs.Written.{Bytes}
 use Rattle.answer.specs.declared.Answer.{Answer}
 use Rattle.settings.specs.declared.Look.{Look}
 use Rattle.settings.specs.declared.Settings.{Settings}
-use Rattle.settings.specs.Fields.{graphics}
+use Rattle.settings.specs.Fields.{settingsOf, graphics}
 use Rattle.settings.specs.Modes.{width, fontSize}
 use Rattle.settings.specs.Refusals.{imageFits, stripLength, frameLength}
 use Rattle.control.specs.Control.{withBit, wordAfter, played, firstElsewhere, playTold}
@@ -27,18 +28,18 @@ use Rattle.sheet.proofs.Annotations.{Reads, Line}
 use Rattle.claims.proofs.Calls.{Lent, Plays, Fetches, Draws, Shows}
 use Rattle.claims.proofs.Demand1.{show-demand}
 use Rattle.claims.proofs.Demand2.{Done, value, strip-bytes, frame-pixels, counted-lines}
-use Rattle.claims.proofs.Demand3.{Bytes}
 
 -- A tool that refuses everything: a call is done where no condition holds,
 pub not-all-refused : (κs : Lfts 4) (s : Settings) (image font strip frame : Lent) (z : Answer) (bytes pixels : List ℕ) → Shows κs s image font strip frame z bytes pixels
-    → NoneHolds (showOrder s (length (now image)) (length (now font)) (length (now strip)) (length (now frame))) → Done z
+    → NoneHolds (showOrder s (now image) (now font) (now strip) (now frame)) → Done z
 not-all-refused κs s image font strip frame z bytes pixels p n = show-demand κs s image font strip frame z bytes pixels p .0 .done-if .1 n
 
--- and such calls there are: RG6 with an image of 4,096 bytes, and text with a font of 1,152.
-abbrev withPins : ℕ → Settings
-withPins p = record { word = 0; look = record { pins = p } }
+-- and such calls there are: RG6 with an image of 4,096 bytes, and text with an image of 65,536 and a font of 1,152.
+abbrev zeros : ℕ → List ℕ
+zeros n = replicate n 0
 
-pub some-done : NoneHolds (showOrder (withPins 0x2E) 4096 0 6144 49152) × NoneHolds (showOrder (withPins 0x00) 65536 1152 6144 49152)
+pub some-done : NoneHolds (showOrder (settingsOf 0x0000 0x2E) (zeros 4096) [] (zeros 6144) (zeros frameLength))
+    × NoneHolds (showOrder (settingsOf 0x4000 0x00) (zeros 65536) (zeros 1152) (zeros 6144) (zeros frameLength))
 unfolding imageFits width fontSize
 some-done = ((refl, (refl, (refl, (refl, (refl, (refl, (refl, tt))))))), (refl, (refl, (refl, (refl, (refl, (refl, (refl, tt))))))))
 

@@ -8,6 +8,7 @@ use lib.Arith.{lt-of-le-ne}
 use lib.Dec.{leb}
 use borrow.Author.Tests.{lt-leb, le-leb, leb-true}
 use Rattle.paper.specs.Choose.{choose}
+use Rattle.paper.proofs.Choices.{both-pass}
 use Rattle.control.specs.Control.{isControl, bitOf, valueOf}
 
 -- bit and value are those of the address
@@ -43,14 +44,10 @@ elsewhere a r =
     let e : isControl a ≡ false = by (decLt a 0xFFC0) (below a) (λ h. above a (omega (arith, past 0xFFC0 a 32 (omega arith) r))) in
     (rw e, rw e)
 
-both : (s t : Bool) → s && t ≡ true → (s ≡ true) × (t ≡ true)
-both true t e = (refl, e)
-both false t e = (e, cc)
-
 -- an address of the control word writes one of its sixteen bits
 pub in-word : (a : ℕ) → isControl a ≡ true → (a - 0xFFC0) / 2 < 16
 in-word a e =
-    let u = both (leb 0xFFC0 a) (leb a 0xFFDF) e in
+    let u = both-pass (leb 0xFFC0 a) (leb a 0xFFDF) e in
     let h : a ≤ 0xFFDF = leb-true a 0xFFDF (u .1) in
     omega arith
 

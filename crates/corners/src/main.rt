@@ -112,15 +112,15 @@ fn fetch(word: usize, pins: usize, image: usize, strip: usize, bytes: &[u8]) {
 // The refusals of fetching in their order, each with all later conditions holding too, or alone.
 fn fetches(image: &[u8]) {
     fetch(0x1000, 0x40, 65535, 0, image);
-    fetch(0x1000, 0x40, 65536, 8192, image);
-    fetch(0x1000, 0x64, 65536, 8192, image);
+    fetch(0x5000, 0x40, 65536, 8192, image);
+    fetch(0x5000, 0x64, 65536, 8192, image);
     fetch(0x1000, 0x10, 65535, 0, image);
-    fetch(0x1000, 0x1F, 65536, 8192, image);
+    fetch(0x5000, 0x1F, 65536, 8192, image);
     fetch(0x1000, 0x20, 65535, 0, image);
-    fetch(0x1000, 0x00, 65536, 8192, image);
+    fetch(0x5000, 0x00, 65536, 8192, image);
     fetch(0x0000, 0x20, 65535, 0, image);
     fetch(0x0000, 0x00, 0, 8192, image);
-    fetch(0x0000, 0x20, 65536, 0, image);
+    fetch(0x4000, 0x20, 65536, 0, image);
 }
 
 // Image lengths.
@@ -131,18 +131,18 @@ fn images(image: &[u8]) {
     fetch(0x0000, 0x20, 65535, 8192, image);
     fetch(0x0000, 0x20, 4096, 8192, image);
     fetch(0x0000, 0x20, 8192, 8192, image);
-    fetch(0x0000, 0x20, 16384, 8192, image);
-    fetch(0x0000, 0x20, 32768, 8192, image);
+    fetch(0x2000, 0x20, 16384, 8192, image);
+    fetch(0x2000, 0x20, 32768, 8192, image);
 }
 
 // Strip lengths, one byte short and just right; INT/EXT with A/G = 1; M, P, R0 and TY.
 fn strips(image: &[u8]) {
-    fetch(0x0000, 0x20, 65536, 3071, image);
-    fetch(0x0000, 0x20, 65536, 3072, image);
-    fetch(0x0000, 0x00, 65536, 6143, image);
-    fetch(0x0000, 0x00, 65536, 6144, image);
-    fetch(0x0000, 0x2E, 65536, 6143, image);
-    fetch(0x0000, 0x30, 65536, 8192, image);
+    fetch(0x4000, 0x20, 65536, 3071, image);
+    fetch(0x4000, 0x20, 65536, 3072, image);
+    fetch(0x4000, 0x00, 65536, 6143, image);
+    fetch(0x4000, 0x00, 65536, 6144, image);
+    fetch(0x4000, 0x2E, 65536, 6143, image);
+    fetch(0x4000, 0x30, 65536, 8192, image);
     fetch(0xEC00, 0x2E, 65536, 8192, image);
 }
 

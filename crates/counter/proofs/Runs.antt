@@ -11,7 +11,7 @@ use Rattle.settings.specs.declared.Settings.{Settings}
 use Rattle.settings.specs.Modes.{width}
 use Rattle.settings.proofs.Widths.{width-cases}
 use Rattle.counter.specs.declared.Counter.{Counter}
-use Rattle.counter.specs.Counter.{divX, divY, wrap, counter, run, carry, advance, clear, bytesOn, start, lineStart}
+use Rattle.counter.specs.Counter.{divX, divY, wrap, counter, run, fall, carry, advance, clear, bytesOn, start, lineStart}
 use Rattle.counter.proofs.Wraps.{wrap-wrap, wrap-small, wrap-lt}
 use Rattle.counter.proofs.Tables.{by-kept, cleared-le}
 use Rattle.counter.proofs.Walks.{bytesOn-on}
@@ -20,6 +20,10 @@ use Rattle.counter.proofs.Walks.{bytesOn-on}
 pub record Aligned (c : Counter) : Type 0 where
   pub low : c .address % 16 ≡ 0
   pub fits : c .address < 2 ^ 16
+
+fall-aligned : (s : Settings) (c : Counter) → Aligned c → Aligned (fall s c)
+unfolding fall
+fall-aligned s c al = of-both Aligned (ltb (c .y + 1) (divY s)) (record { low = al .low; fits = al .fits }) (record { low = omega (arith, al .low); fits = wrap-lt (c .address) 32 })
 
 module _ (s : Settings) (c : Counter) (al : Aligned c) where
   -- the last four bits of the address inside the run count the bytes
@@ -50,8 +54,7 @@ module _ (s : Settings) (c : Counter) (al : Aligned c) where
   carry-aligned =
       of-both Aligned (ltb (c .x + 1) (divX s)) (record { low = run-low; fits = omega (arith, al .fits) })
       (of-both Aligned (eqb (run c % 32) 0) (record { low = omega arith; fits = wrap-lt (run c) 16 })
-      (of-both Aligned (ltb (c .y + 1) (divY s)) (record { low = omega arith; fits = omega (arith, al .fits) })
-      (record { low = omega arith; fits = wrap-lt (run c) 16 })))
+      (fall-aligned s (counter (run c - 16) 0 (c .y)) (record { low = omega arith; fits = omega (arith, al .fits) })))
 
   pub clear-aligned : Aligned (clear s c)
   unfolding clear

@@ -10,7 +10,7 @@ use Rattle.settings.specs.declared.Settings.{Settings}
 use Rattle.settings.specs.Fields.{videoMode, offset}
 use Rattle.settings.specs.Modes.{width}
 use Rattle.counter.specs.declared.Counter.{Counter}
-use Rattle.counter.specs.Counter.{divX, divY, wrap, counter, run, carry, advance, clear, bytesOn, start, lineStart, addressOf}
+use Rattle.counter.specs.Counter.{divX, divY, wrap, counter, run, fall, carry, advance, clear, bytesOn, start, lineStart, addressOf}
 use Rattle.counter.proofs.Tables.{by-kept}
 
 -- the counter with its address 512 k further on
@@ -38,11 +38,15 @@ swap a k n = omega arith
 run-shift : (a k : ℕ) → wrap a (512 * k) / 16 * 16 ≡ wrap (a / 16 * 16) (512 * k)
 run-shift a k = omega arith
 
--- B4 falls: the run is at least 16
-fall-shift : (r k : ℕ) → r % 16 ≡ 0 → (r % 32 ≡ 0 → ⊥) → wrap r (512 * k) - 16 ≡ wrap (r - 16) (512 * k)
-fall-shift r k h n = less r (r - 16) k 16 (omega arith) (omega (arith, low32 (r - 16) k))
+-- a run whose B4 is 1 is at least 16
+less-run : (r k : ℕ) → r % 16 ≡ 0 → (r % 32 ≡ 0 → ⊥) → wrap r (512 * k) - 16 ≡ wrap (r - 16) (512 * k)
+less-run r k h n = less r (r - 16) k 16 (omega arith) (omega (arith, low32 (r - 16) k))
 
 module _ (s : Settings) (k : ℕ) where
+  fall-shift : (c : Counter) → fall s (shift k c) ≡ shift k (fall s c)
+  unfolding fall
+  fall-shift c = by-test (ltb (c .y + 1) (divY s)) (λ t. simp t) (λ t. simp t (ap (λ (n : ℕ). counter n (c .x) 0) (swap (c .address) k 32)))
+
   carry-shift : (c : Counter) → carry s (shift k c) ≡ shift k (carry s c)
   unfolding carry
   carry-shift c =
@@ -52,10 +56,7 @@ module _ (s : Settings) (k : ℕ) where
       (λ t1.
       by-test (eqb (run c % 32) 0)
       (λ t2. simp (t1, t2) (ap (λ (n : ℕ). counter n 0 (c .y)) (swap (run c) k 16)))
-      (λ t2.
-      by-test (ltb (c .y + 1) (divY s))
-      (λ t3. simp (t1, t2, t3) (ap (λ (n : ℕ). counter n 0 (c .y + 1)) (fall-shift (run c) k (omega arith) (eqb-false _ _ t2))))
-      (λ t3. simp (t1, t2, t3) (ap (λ (n : ℕ). counter n 0 0) (swap (run c) k 16))))))
+      (λ t2. simp (t1, t2) (rw (less-run (run c) k (omega arith) (eqb-false _ _ t2)) (fall-shift (counter (run c - 16) 0 (c .y)))))))
 
   advance-shift : (c : Counter) → advance s (shift k c) ≡ shift k (advance s c)
   unfolding advance
@@ -106,7 +107,7 @@ fromZero s = record { word = videoMode s; look = s .look }
 -- the counter's rules read V alone
 module _ (s t : Settings) (e : videoMode s ≡ videoMode t) where
   advance-by-v : (c : Counter) → advance s c ≡ advance t c
-  unfolding advance carry
+  unfolding advance carry fall
   advance-by-v c = rw e
 
   pub bytes-by-v : (n : ℕ) (c : Counter) → bytesOn s n c ≡ bytesOn t n c

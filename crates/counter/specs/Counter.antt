@@ -41,15 +41,15 @@ counter a x y = record { address = a; x = x; y = y }
 abbrev pub run : Counter → ℕ
 run c = c .address / 16 * 16
 
--- B4 goes from 1 to 0: the Y divider counts; on its Yth count it returns to 0 and B5-B15 count up
-abbrev pub countY : Settings → Counter → Counter
-countY s c = choose (ltb (c .y + 1) (divY s)) (counter (run c - 16) 0 (c .y + 1)) (counter (wrap (run c) 16) 0 0)
+-- B4 has gone from 1 to 0: the Y divider counts; on its Yth count it returns to 0 and B5-B15 count up
+unfoldable pub fall : Settings → Counter → Counter
+fall s c = choose (ltb (c .y + 1) (divY s)) (counter (c .address) (c .x) (c .y + 1)) (counter (wrap (c .address) 32) (c .x) 0)
 
 -- B0-B3 pass 15: the X divider counts; on its Xth count it returns to 0 and B4 flips
 unfoldable pub carry : Settings → Counter → Counter
 carry s c =
     choose (ltb (c .x + 1) (divX s)) (counter (run c) (c .x + 1) (c .y))
-    (choose (eqb (run c % 32) 0) (counter (wrap (run c) 16) 0 (c .y)) (countY s c))
+    (choose (eqb (run c % 32) 0) (counter (wrap (run c) 16) 0 (c .y)) (fall s (counter (run c - 16) 0 (c .y))))
 
 -- after each byte B0-B3 count up
 unfoldable pub advance : Settings → Counter → Counter

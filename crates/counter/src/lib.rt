@@ -83,6 +83,7 @@ impl Counter {
                 y: y,
             };
         }
+        // B4 falls. Written out: a call that hands back a counter packs it, which makes fetching slower
         if (y as usize) + 1 < times_y(v) {
             return Counter {
                 address: run - 16,

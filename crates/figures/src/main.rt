@@ -160,9 +160,10 @@ fn counted(settings: Settings, line: usize, byte: usize) -> u16 {
     counter.address
 }
 
-// The byte at a place of the strip that is fetched from an image.
-fn fetched(settings: Settings, image: &[u8], k: usize) -> usize {
+// The byte at a place of the strip that is fetched from an image of 65,536 bytes, with M1 set for that length.
+fn fetched(word: usize, pins: usize, image: &[u8], k: usize) -> usize {
     let mut strip = [0u8; 6144];
+    let settings = settings_of(word % 16384 + 0x4000, pins);
     strip::fetch(settings, image, &mut strip);
     at(&strip, k)
 }
@@ -188,8 +189,8 @@ fn address_figure(
         b": address $, fetched %%\n",
         &[
             address as usize,
-            fetched(settings, high, k),
-            fetched(settings, low, k),
+            fetched(word, pins, high, k),
+            fetched(word, pins, low, k),
         ],
     );
 }

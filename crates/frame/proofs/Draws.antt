@@ -1,21 +1,25 @@
--- Drawing, done or refused: what is then known of the lengths, and what the frame is.
-use Prim.Native.Nat.{ℕ, _*_, _≤_}
-use mathlib.Core.Path.{_≡_, refl}
+-- Drawing, done or refused: what is then known of the lengths, what is told, and what the frame is.
+use Prim.Native.Nat.{ℕ, _<_, _≤_}
+use mathlib.Core.Path.{_≡_, refl, sym, ap, _∙_}
 use mathlib.Core.Bool.{Bool, true, false, not, _&&_}
-use mathlib.Core.List.{List}
+use mathlib.Core.List.{List, [], _∷_}
 use native.Mathlib.Omega.{arith}
 use lib.Dec.{eqb, ltb}
-use lib.ListN.{length}
-use borrow.Author.Tests.{le-ltb, eq-eqb, eqb-true, ltb-false}
-use Rattle.paper.specs.Told.{done}
-use Rattle.paper.specs.Written.{written}
-use Rattle.paper.proofs.Orders.{done-when}
-use Rattle.paper.proofs.Later.{passed}
+use lib.ListN.{length, getD}
+use borrow.Author.Tests.{le-ltb, eqb-true, ltb-false}
+use Rattle.paper.specs.Told.{Told, done}
+use Rattle.paper.specs.Order.{Check, firstOf}
+use Rattle.paper.specs.Written.{written, Filled}
+use Rattle.paper.proofs.Fills.{written-by, filled-written, leaves-done, leaves-refused}
+use Rattle.paper.proofs.Orders.{done-when, done-says, passing}
+use Rattle.paper.proofs.Later.{first-refuses, first-passes, first-done}
 use Rattle.settings.specs.declared.Look.{Look}
-use Rattle.settings.specs.Fields.{graphics, external}
-use Rattle.settings.specs.Modes.{width, border, fontSize}
-use Rattle.pixel.specs.Picture.{picture}
-use Rattle.frame.specs.Draw.{drawOrder, drawTold, frameAfter, Fits}
+use Rattle.settings.specs.Fields.{graphics}
+use Rattle.settings.specs.Modes.{border, fontSize}
+use Rattle.settings.specs.Refusals.{stripLength, frameLength}
+use Rattle.pixel.specs.Picture.{owner, picture}
+use Rattle.pixel.proofs.Owners.{depends, owner-below}
+use Rattle.frame.specs.Draw.{drawLengths, drawBytes, drawOrder, drawTold, frameAfter, DrawFits}
 
 -- in text, with the wrong length ruled out, the length is right
 right-length : (g a : Bool) → g ≡ false → (not g && not a) ≡ false → a ≡ true
@@ -23,44 +27,87 @@ right-length false true h e = refl
 right-length false false h e = let z : _≡_ {A = ℕ} 0 1 = cc in absurd (omega arith)
 right-length true a h e = let z : _≡_ {A = ℕ} 0 1 = cc in absurd (omega arith)
 
--- where drawing is done, everything fits
-pub accepted : (look : Look) (font strip frame : ℕ) → drawTold look font strip frame .number ≡ 0 → Fits look font strip frame
-unfolding drawTold drawOrder
-accepted look font strip frame e =
-    let n = done-when (done (border look)) refl (drawOrder look font strip frame) tt .0 e in
-    record {
-      font-whole = λ g. eqb-true _ _ (right-length (graphics look) (eqb font (fontSize look)) g (n .1 .1 .0));
-      strip-long = ltb-false _ _ (n .1 .1 .1 .0);
-      frame-long = ltb-false _ _ (n .1 .1 .1 .1 .0);
-    }
-
-pub accepted-pins : (look : Look) (font strip frame : ℕ) → drawTold look font strip frame .number ≡ 0 → look .pins ≤ 63
-unfolding drawTold drawOrder
-accepted-pins look font strip frame e = ltb-false _ _ (done-when (done (border look)) refl (drawOrder look font strip frame) tt .0 e .0)
+-- what is told of the lengths alone
+abbrev pub drawLengthTold : Look → ℕ → ℕ → ℕ → Told
+drawLengthTold look font strip frame = firstOf (drawLengths look font strip frame) (done (border look))
 
 module _ (look : Look) (font strip frame : ℕ) where
-  -- where no condition of the order holds, drawing is done
-  pub accepts : ltb 63 (look .pins) ≡ false → (not (graphics look) && external look) ≡ false → (not (graphics look) && not (eqb font (fontSize look))) ≡ false
-      → 192 * width look ≤ strip → 49152 ≤ frame → drawTold look font strip frame .number ≡ 0
-  unfolding drawTold drawOrder
-  accepts p x w s f = done-when (done (border look)) refl (drawOrder look font strip frame) tt .1 (p, (x, (w, (le-ltb _ _ s, (le-ltb _ _ f, tt)))))
+  -- where no length is refused, everything fits
+  pub lengths-fit : drawLengthTold look font strip frame .number ≡ 0 → DrawFits look font strip frame
+  lengths-fit e =
+      let n = passing (6 ∷ 7 ∷ 8 ∷ []) (drawLengths look font strip frame) (done-when (done (border look)) refl (drawLengths look font strip frame) tt .0 e) in
+      record {
+        font-whole = λ g. eqb-true _ _ (right-length (graphics look) (eqb font (fontSize look)) g (n .0));
+        strip-long = ltb-false _ _ (n .1 .0);
+        frame-long = ltb-false _ _ (n .1 .1 .0);
+      }
 
-  -- so in graphics wherever strip and frame are long enough
-  pub accepts-graphics : look .pins ≤ 63 → graphics look ≡ true → 192 * width look ≤ strip → 49152 ≤ frame → drawTold look font strip frame .number ≡ 0
-  accepts-graphics p g = accepts (le-ltb _ _ p) (simp g) (simp g)
+  -- in graphics none is refused wherever strip and frame are long enough
+  pub fits-graphics : look .pins ≤ 63 → graphics look ≡ true → stripLength look ≤ strip → frameLength ≤ frame → drawLengthTold look font strip frame .number ≡ 0
+  fits-graphics p g s f =
+      done-when (done (border look)) refl (drawLengths look font strip frame) tt .1
+      (le-ltb _ _ p, (simp g, (simp g, (le-ltb _ _ s, (le-ltb _ _ f, tt)))))
 
-  -- and then it is done with the border
-  pub told-done : drawTold look font strip frame .number ≡ 0 → drawTold look font strip frame ≡ done (border look)
-  unfolding drawTold drawOrder
-  told-done e = passed (done (border look)) (done (border look)) (drawOrder look font strip frame) tt e
+-- bytes that are alike are refused alike
+pub same-bytes : (look : Look) (f g : ℕ → ℕ) → ((k : ℕ) → k < stripLength look → f k ≡ g k) → drawBytes look f ≡ drawBytes look g
+same-bytes look f g e = refl
 
 module _ (look : Look) (font strip frame : List ℕ) where
-  -- and the frame holds the picture
-  pub frame-done : drawTold look (length font) (length strip) (length frame) .number ≡ 0 → frameAfter look font strip frame ≡ written (picture look font strip) 49152 frame
-  unfolding frameAfter
-  frame-done e = simp (eq-eqb _ _ e)
+  -- where no length is refused, what is told of the bytes
+  pub told-passed : (byte : ℕ → ℕ) → drawLengthTold look (length font) (length strip) (length frame) .number ≡ 0 → ((k : ℕ) → k < stripLength look → getD strip k 0 ≡ byte k)
+      → drawTold look font strip frame ≡ firstOf (drawBytes look byte) (done (border look))
+  unfolding drawTold
+  told-passed byte h e =
+      first-passes (done (border look)) refl (drawLengths look (length font) (length strip) (length frame)) (drawBytes look (λ (k : ℕ). getD strip k 0)) tt h
+      ∙ ap (λ (cs : List Check). firstOf cs (done (border look))) (same-bytes look (λ (k : ℕ). getD strip k 0) byte e)
 
-  -- a refusal leaves it as it was
-  pub frame-refused : eqb (drawTold look (length font) (length strip) (length frame) .number) 0 ≡ false → frameAfter look font strip frame ≡ frame
+  -- where drawing is done, everything fits, and the border is told
+  pub accepted : drawTold look font strip frame .number ≡ 0 → DrawFits look (length font) (length strip) (length frame)
+  unfolding drawTold
+  accepted e =
+      lengths-fit look (length font) (length strip) (length frame)
+      (first-done (done (border look)) refl (drawLengths look (length font) (length strip) (length frame)) (drawBytes look (λ (k : ℕ). getD strip k 0)) e)
+
+  pub accepted-pins : drawTold look font strip frame .number ≡ 0 → look .pins ≤ 63
+  unfolding drawTold
+  accepted-pins e = ltb-false _ _ (passing (1 ∷ []) (drawOrder look font strip frame) (done-when (done (border look)) refl (drawOrder look font strip frame) tt .0 e) .0)
+
+  pub told-done : drawTold look font strip frame .number ≡ 0 → drawTold look font strip frame ≡ done (border look)
+  unfolding drawTold
+  told-done e = done-says (done (border look)) refl (drawOrder look font strip frame) tt e
+
+  -- in graphics it is done wherever strip and frame are long enough
+  pub accepts-graphics : look .pins ≤ 63 → graphics look ≡ true → stripLength look ≤ length strip → frameLength ≤ length frame → drawTold look font strip frame .number ≡ 0
+  accepts-graphics p g s f = rw (told-passed (λ (k : ℕ). getD strip k 0) (fits-graphics look (length font) (length strip) (length frame) p g s f) (λ k h. refl))
+
+  -- the frame then holds the picture; a refusal leaves it as it was
+  pub frame-done : drawTold look font strip frame .number ≡ 0 → frameAfter look font strip frame ≡ written (picture look font strip) frameLength frame
   unfolding frameAfter
-  frame-refused e = simp e
+  frame-done e = leaves-done (drawTold look font strip frame) _ frame e
+
+  pub frame-refused : (drawTold look font strip frame .number ≡ 0 → ⊥) → frameAfter look font strip frame ≡ frame
+  unfolding frameAfter
+  frame-refused h = leaves-refused (drawTold look font strip frame) _ frame h
+
+  -- where a length is refused, that is told, and the frame stays
+  module _ {t : Told} (told : t ≡ drawLengthTold look (length font) (length strip) (length frame)) where
+    pub length-refused : (t .number ≡ 0 → ⊥) → (t ≡ drawTold look font strip frame) × (frame ≡ frameAfter look font strip frame)
+    unfolding drawTold
+    length-refused h =
+        let e : t ≡ drawTold look font strip frame = told ∙ sym (first-refuses (done (border look)) refl (drawLengths look (length font) (length strip) (length frame)) (drawBytes look (λ (k : ℕ). getD strip k 0)) (λ z. h (rw told z))) in
+        (e, sym (frame-refused (λ z. h (rw e z))))
+
+    -- and where none is, it is done with the picture
+    pub all-drawn : {new : List ℕ} → t .number ≡ 0 → Filled (picture look font strip) 0 frameLength frame new → (t ≡ drawTold look font strip frame) × (new ≡ frameAfter look font strip frame)
+    unfolding drawTold
+    all-drawn z f =
+        let d = rw told at z in
+        (told, filled-written (lengths-fit look (length font) (length strip) (length frame) d .frame-long) f ∙ sym (frame-done d))
+
+-- only the 192 × W bytes of a strip are drawn
+pub same-frame : (look : Look) (font S R frame : List ℕ) → drawTold look font S frame .number ≡ 0 → drawTold look font R frame .number ≡ 0
+    → ((k : ℕ) → k < stripLength look → getD S k 0 ≡ getD R k 0) → frameAfter look font S frame ≡ frameAfter look font R frame
+same-frame look font S R frame d e h =
+    frame-done look font S frame d
+    ∙ written-by frameLength frame (λ k l. depends look font S R k (h (owner look k) (owner-below look k l)))
+    ∙ sym (frame-done look font R frame e)

@@ -15,7 +15,7 @@ use Rattle.pixel.specs.Graphics.{element, graphic}
 use Rattle.pixel.specs.Picture.{breadth, owner, dot}
 use Rattle.pixel.proofs.Elements.{by-mode, by-elements}
 use Rattle.pixel.proofs.Owners.{owner-div, dot-mod}
-use Rattle.frame.specs.Steps.{shade, Stretch, shown}
+use Rattle.frame.specs.Steps.{shade, Stretch, plotted}
 use Rattle.frame.proofs.Stretches.{dot-of}
 
 module _ (l : Look) (g : graphics l ≡ true) (s : ℕ) (h : Stretch s) (w : breadth l ≡ 8 * s) where
@@ -37,10 +37,10 @@ module _ (l : Look) (g : graphics l ≡ true) (s : ℕ) (h : Stretch s) (w : bre
       halves t = ⊎-elim (λ e. rw e (omega arith)) (λ e. rw e (omega arith)) h
 
   -- so a table of shades, by way of the strip, is the picture
-  pub shown-graphic : (S T x : List ℕ) → Filled (λ (n : ℕ). shade l (n / 8) (n % 8)) 0 2048 x T → ((j : ℕ) → getD S j 0 < 256)
-      → (k : ℕ) → shown s T S k ≡ graphic l (getD S (owner l k) 0) (dot l k)
-  unfolding shown
-  shown-graphic S T x f byte k =
+  pub plotted-graphic : (S T x : List ℕ) → Filled (λ (n : ℕ). shade l (n / 8) (n % 8)) 0 2048 x T → ((j : ℕ) → getD S j 0 < 256)
+      → (k : ℕ) → plotted s T S k ≡ graphic l (getD S (owner l k) 0) (dot l k)
+  unfolding plotted
+  plotted-graphic S T x f byte k =
       let i : owner l k ≡ k / (8 * s) = owner-div l k ∙ ap (λ (d : ℕ). k / d) w in
       let t : dot l k ≡ k % (8 * s) = dot-mod l k ∙ ap (λ (d : ℕ). k % d) w in
       rw (i, t) (entry (getD S (k / (8 * s)) 0) (k % (8 * s) / s) (byte (k / (8 * s))) (dot-of h k) ∙ sym (stretched (getD S (k / (8 * s)) 0) (k % (8 * s))))

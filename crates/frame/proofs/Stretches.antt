@@ -5,7 +5,8 @@ use mathlib.Core.List.{List}
 use mathlib.Core.Logic.{⊎-elim}
 use native.Mathlib.Omega.{arith}
 use lib.ListN.{getD}
-use Rattle.frame.specs.Steps.{Stretch, shown}
+use Rattle.settings.specs.Refusals.{frameLength}
+use Rattle.frame.specs.Steps.{Stretch, plotted}
 
 module _ {s : ℕ} (h : Stretch s) where
   pub stretch-pos : 0 < s
@@ -28,7 +29,7 @@ module _ {s : ℕ} (h : Stretch s) where
   pub cell-end : (n c : ℕ) → n * 256 + c * (8 * s) + 8 * s ≡ n * 256 + (c + 1) * (8 * s)
   cell-end n c = ⊎-elim (λ e. rw e (omega arith)) (λ e. rw e (omega arith)) h
 
-  pub cell-within : (n c : ℕ) → n < 192 → c < 32 / s → n * 256 + c * (8 * s) + 8 * s ≤ 49152
+  pub cell-within : (n c : ℕ) → n < 192 → c < 32 / s → n * 256 + c * (8 * s) + 8 * s ≤ frameLength
   cell-within n c = ⊎-elim (λ e. rw e (λ l m. omega arith)) (λ e. rw e (λ l m. omega arith)) h
 
   pub byte-within : (n c : ℕ) → n < 192 → c < 32 / s → (n * (32 / s) + c < 192 * (32 / s)) × (n * (32 / s) + c < 6144)
@@ -36,8 +37,8 @@ module _ {s : ℕ} (h : Stretch s) where
 
   -- the pixels of byte c of line n
   pub cell : (T S : List ℕ) (n c r : ℕ) → r ≡ getD S (n * (32 / s) + c) 0
-      → (k : ℕ) → n * 256 + c * (8 * s) ≤ k → k < n * 256 + c * (8 * s) + 8 * s → getD T (r * 8 + (k - (n * 256 + c * (8 * s))) / s) 0 ≡ shown s T S k
-  unfolding shown
+      → (k : ℕ) → n * 256 + c * (8 * s) ≤ k → k < n * 256 + c * (8 * s) + 8 * s → getD T (r * 8 + (k - (n * 256 + c * (8 * s))) / s) 0 ≡ plotted s T S k
+  unfolding plotted
   cell T S n c r =
       ⊎-elim
       (λ e. rw e (λ q k a b.

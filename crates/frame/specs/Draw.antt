@@ -1,36 +1,39 @@
 -- Drawing: document 01's order 1, 2, 6, 7, 8, and the frame afterwards.
-use Prim.Native.Nat.{ℕ, _*_, _≤_}
+use Prim.Native.Nat.{ℕ, _≤_}
 use mathlib.Core.Path.{_≡_}
 use mathlib.Core.Bool.{false}
-use mathlib.Core.List.{List, [], _∷_}
-use lib.Dec.{eqb}
-use lib.ListN.{length}
-use Rattle.paper.specs.Choose.{choose}
+use mathlib.Core.List.{List, [], _∷_, _++_}
+use lib.ListN.{length, getD}
 use Rattle.paper.specs.Told.{Told, done}
 use Rattle.paper.specs.Order.{Check, firstOf}
-use Rattle.paper.specs.Written.{written}
+use Rattle.paper.specs.Written.{written, leaves}
 use Rattle.settings.specs.declared.Look.{Look}
 use Rattle.settings.specs.Fields.{graphics}
-use Rattle.settings.specs.Modes.{width, border, fontSize}
-use Rattle.settings.specs.Refusals.{pinsAbove, externalText, fontLength, shortStrip, shortFrame}
+use Rattle.settings.specs.Modes.{border, fontSize}
+use Rattle.settings.specs.Refusals.{stripLength, frameLength, pinsAbove, externalText, fontLength, shortStrip, shortFrame}
 use Rattle.pixel.specs.Picture.{picture}
 
--- the refusals, by the look and the lengths of font, strip and frame
-unfoldable pub drawOrder : Look → ℕ → ℕ → ℕ → List Check
-drawOrder look font strip frame =
-    pinsAbove look ∷ externalText look ∷ fontLength look font ∷ shortStrip look strip ∷ shortFrame frame ∷ []
+-- drawing checks 1, 2, 6, 7, 8, by the look and the lengths of font, strip and frame
+abbrev pub drawLengths : Look → ℕ → ℕ → ℕ → List Check
+drawLengths look font strip frame = pinsAbove look ∷ externalText look ∷ fontLength look font ∷ shortStrip look strip ∷ shortFrame frame ∷ []
 
--- what is told: the first refusal that holds, else done with the border
-unfoldable pub drawTold : Look → ℕ → ℕ → ℕ → Told
+-- then by the bytes that are drawn, byte k of the strip; none is refused: the list waits for CR 5
+abbrev pub drawBytes : Look → (ℕ → ℕ) → List Check
+drawBytes look byte = []
+
+-- the whole order, over what is lent, and what is told
+abbrev pub drawOrder : Look → List ℕ → List ℕ → List ℕ → List Check
+drawOrder look font strip frame = drawLengths look (length font) (length strip) (length frame) ++ drawBytes look (λ k. getD strip k 0)
+
+unfoldable pub drawTold : Look → List ℕ → List ℕ → List ℕ → Told
 drawTold look font strip frame = firstOf (drawOrder look font strip frame) (done (border look))
 
--- the frame afterwards: where done, the picture in its first 49,152 bytes; a refusal stores nothing
+-- done, the picture is in the frame's first 49,152 bytes
 unfoldable pub frameAfter : Look → List ℕ → List ℕ → List ℕ → List ℕ
-frameAfter look font strip frame =
-    choose (eqb (drawTold look (length font) (length strip) (length frame) .number) 0) (written (picture look font strip) 49152 frame) frame
+frameAfter look font strip frame = leaves (drawTold look font strip frame) (written (picture look font strip) frameLength frame) frame
 
--- what is known of the lengths where nothing is refused
-pub record Fits (look : Look) (font strip frame : ℕ) : Type 0 where
+-- what is known where no length is refused
+pub record DrawFits (look : Look) (font strip frame : ℕ) : Type 0 where
   pub font-whole : graphics look ≡ false → font ≡ fontSize look
-  pub strip-long : 192 * width look ≤ strip
-  pub frame-long : 49152 ≤ frame
+  pub strip-long : stripLength look ≤ strip
+  pub frame-long : frameLength ≤ frame

@@ -19,8 +19,8 @@ abbrev pub Stretch : ℕ → Type 0
 Stretch s = (s ≡ 1) ⊎ (s ≡ 2)
 
 -- pixel k out of a table of eight dots a byte
-unfoldable pub shown : ℕ → List ℕ → List ℕ → ℕ → ℕ
-shown s table strip k = getD table (getD strip (k / (8 * s)) 0 * 8 + k % (8 * s) / s) 0
+unfoldable pub plotted : ℕ → List ℕ → List ℕ → ℕ → ℕ
+plotted s table strip k = getD table (getD strip (k / (8 * s)) 0 * 8 + k % (8 * s) / s) 0
 
 -- Text: pixel k out of a table of the lit dots of every byte on each of the twelve rows
 unfoldable pub typed : Look → List ℕ → List ℕ → ℕ → ℕ

@@ -3,16 +3,19 @@ ghost use mathlib.Core.Path.{_≡_};
 ghost use mathlib.Core.Bool.{true, false};
 ghost use Prim.Native.Nat.{ℕ, _+_, _-_, _*_, _/_, _%_, _<_, _≤_};
 ghost use lib.ListN.{length, getD};
+ghost use Rattle.paper.specs.Told.{done};
+ghost use Rattle.paper.specs.Order.{firstOf};
 ghost use Rattle.paper.specs.Written.{Filled};
 ghost use Rattle.answer.specs.Told.{toldOf};
 ghost use Rattle.settings.specs.Fields.{graphics};
-ghost use Rattle.settings.specs.Modes.{width, fontSize};
+ghost use Rattle.settings.specs.Modes.{width, border, fontSize};
+ghost use Rattle.settings.specs.Refusals.{frameLength};
 ghost use Rattle.pixel.specs.Dots.{oneBit, twoBits, black};
 ghost use Rattle.pixel.specs.Graphics.{graphic};
 ghost use Rattle.pixel.specs.Picture.{owner, dot, picture};
 ghost use Rattle.pixel.specs.Text.{pattern, inverted, letter, block, lit, ink};
-ghost use Rattle.frame.specs.Steps.{shade, Stretch, shown, typed};
-ghost use Rattle.frame.specs.Draw.{drawTold, frameAfter, Fits};
+ghost use Rattle.frame.specs.Steps.{shade, Stretch, plotted, typed};
+ghost use Rattle.frame.specs.Draw.{drawLengths, drawTold, frameAfter, DrawFits};
 use answer::Answer;
 use settings::Look;
 
@@ -94,8 +97,8 @@ fn copy(stretch: usize, table: &[u8; 2048], from: usize, frame: &mut [u8], at: u
 
 // Line n.
 fn plot_line(stretch: usize, table: &[u8; 2048], strip: &[u8], n: usize, frame: &mut [u8])
-    requires { ⌜ Stretch stretch × (n < 192) × (192 * (32 / stretch) ≤ length (now strip)) × (49152 ≤ length (now frame)) ⌝ }
-    ensures { λ _. ⌜ Filled (shown stretch (now (table .entry)) (now (strip .entry))) (n * 256) (n * 256 + 256) (now (frame .entry)) (now (frame .exit)) ⌝ }
+    requires { ⌜ Stretch stretch × (n < 192) × (192 * (32 / stretch) ≤ length (now strip)) × (frameLength ≤ length (now frame)) ⌝ }
+    ensures { λ _. ⌜ Filled (plotted stretch (now (table .entry)) (now (strip .entry))) (n * 256) (n * 256 + 256) (now (frame .entry)) (now (frame .exit)) ⌝ }
 {
     let width = 32 / stretch;
     let mut c: usize = 0;
@@ -113,8 +116,8 @@ fn plot_line(stretch: usize, table: &[u8; 2048], strip: &[u8], n: usize, frame: 
 
 // All lines.
 fn plot_lines(stretch: usize, table: &[u8; 2048], strip: &[u8], frame: &mut [u8])
-    requires { ⌜ Stretch stretch × (192 * (32 / stretch) ≤ length (now strip)) × (49152 ≤ length (now frame)) ⌝ }
-    ensures { λ _. ⌜ Filled (shown stretch (now (table .entry)) (now (strip .entry))) 0 49152 (now (frame .entry)) (now (frame .exit)) ⌝ }
+    requires { ⌜ Stretch stretch × (192 * (32 / stretch) ≤ length (now strip)) × (frameLength ≤ length (now frame)) ⌝ }
+    ensures { λ _. ⌜ Filled (plotted stretch (now (table .entry)) (now (strip .entry))) 0 frameLength (now (frame .entry)) (now (frame .exit)) ⌝ }
 {
     let mut n: usize = 0;
     while n < 192 {
@@ -125,8 +128,8 @@ fn plot_lines(stretch: usize, table: &[u8; 2048], strip: &[u8], frame: &mut [u8]
 
 // A graphics frame. The two calls name their stretch as a number, so that each is compiled to its own moves.
 fn plot(look: Look, strip: &[u8], frame: &mut [u8])
-    requires { ⌜ (graphics look ≡ true) × (192 * width look ≤ length (now strip)) × (49152 ≤ length (now frame)) ⌝ }
-    ensures { λ _. ⌜ Filled (λ k. graphic look (getD (now (strip .entry)) (owner look k) 0) (dot look k)) 0 49152 (now (frame .entry)) (now (frame .exit)) ⌝ }
+    requires { ⌜ (graphics look ≡ true) × (192 * width look ≤ length (now strip)) × (frameLength ≤ length (now frame)) ⌝ }
+    ensures { λ _. ⌜ Filled (λ k. graphic look (getD (now (strip .entry)) (owner look k) 0) (dot look k)) 0 frameLength (now (frame .entry)) (now (frame .exit)) ⌝ }
 {
     let mut table = [0u8; 2048];
     shades(look, &mut table);
@@ -253,7 +256,7 @@ fn text_line(
     n: usize,
     frame: &mut [u8],
 )
-    requires { ⌜ (n < 192) × (6144 ≤ length (now strip)) × (49152 ≤ length (now frame)) ⌝ }
+    requires { ⌜ (n < 192) × (6144 ≤ length (now strip)) × (frameLength ≤ length (now frame)) ⌝ }
     requires { ⌜ ((j : ℕ) → j < 2048 → getD (now masks) j 0 ≡ oneBit 255 0 (j / 8) (j % 8)) ⌝ }
     ensures { λ _. ⌜ Filled (typed look (now (glyphs .entry)) (now (strip .entry))) (n * 256) (n * 256 + 256) (now (frame .entry)) (now (frame .exit)) ⌝ }
 {
@@ -274,8 +277,8 @@ fn text_line(
 
 // A text frame.
 fn text(look: Look, font: &[u8], strip: &[u8], frame: &mut [u8])
-    requires { ⌜ (graphics look ≡ false) × (length (now font) ≡ fontSize look) × (6144 ≤ length (now strip)) × (49152 ≤ length (now frame)) ⌝ }
-    ensures { λ _. ⌜ Filled (picture look (now (font .entry)) (now (strip .entry))) 0 49152 (now (frame .entry)) (now (frame .exit)) ⌝ }
+    requires { ⌜ (graphics look ≡ false) × (length (now font) ≡ fontSize look) × (6144 ≤ length (now strip)) × (frameLength ≤ length (now frame)) ⌝ }
+    ensures { λ _. ⌜ Filled (picture look (now (font .entry)) (now (strip .entry))) 0 frameLength (now (frame .entry)) (now (frame .exit)) ⌝ }
 {
     let mut masks = [0u8; 2048];
     by_bits(255, 0, &mut masks);
@@ -291,27 +294,21 @@ fn text(look: Look, font: &[u8], strip: &[u8], frame: &mut [u8])
 // Drawing.
 
 // The answer, by the look and the three lengths.
-fn draw_answer(look: Look, font: usize, strip: usize, frame: usize) -> Answer
-    ensures { λ r. ⌜ toldOf r ≡ drawTold look font strip frame ⌝ }
+fn length_answer(look: Look, font: usize, strip: usize, frame: usize) -> Answer
+    ensures { λ r. ⌜ toldOf r ≡ firstOf (drawLengths look font strip frame) (done (border look)) ⌝ }
 {
-    let text = !settings::graphics(look);
-    let total = 192 * settings::width(look);
     let mut answer = Answer::Done(wide(settings::border(look)));
-    answer = answer::check(answer, 63 < look.pins, Answer::PinsAbove);
-    answer = answer::check(answer, text & settings::external(look), Answer::External);
-    answer = answer::check(
-        answer,
-        text & !(font == settings::font_size(look)),
-        Answer::FontLength,
-    );
-    answer = answer::check(answer, strip < total, Answer::ShortStrip);
-    answer::check(answer, frame < 49152, Answer::ShortFrame)
+    answer = settings::pins_above(answer, look);
+    answer = settings::external_text(answer, look);
+    answer = settings::font_length(answer, look, font);
+    answer = settings::short_strip(answer, look, strip);
+    settings::short_frame(answer, frame)
 }
 
 // The picture, where nothing is refused.
 fn paint(look: Look, font: &[u8], strip: &[u8], frame: &mut [u8])
-    requires { ⌜ Fits look (length (now font)) (length (now strip)) (length (now frame)) ⌝ }
-    ensures { λ _. ⌜ Filled (picture look (now (font .entry)) (now (strip .entry))) 0 49152 (now (frame .entry)) (now (frame .exit)) ⌝ }
+    requires { ⌜ DrawFits look (length (now font)) (length (now strip)) (length (now frame)) ⌝ }
+    ensures { λ _. ⌜ Filled (picture look (now (font .entry)) (now (strip .entry))) 0 frameLength (now (frame .entry)) (now (frame .exit)) ⌝ }
 {
     if settings::graphics(look) {
         plot(look, strip, frame);
@@ -322,12 +319,13 @@ fn paint(look: Look, font: &[u8], strip: &[u8], frame: &mut [u8])
 
 // Draws a strip: done with the border, and the picture in the first 49,152 bytes of the frame, or refused with the frame as it was.
 pub fn draw(look: Look, font: &[u8], strip: &[u8], frame: &mut [u8]) -> Answer
-    ensures answer { λ r. ⌜ toldOf r ≡ drawTold look (length (now (font .entry))) (length (now (strip .entry))) (length (now (frame .entry))) ⌝ }
+    ensures answer { λ r. ⌜ toldOf r ≡ drawTold look (now (font .entry)) (now (strip .entry)) (now (frame .entry)) ⌝ }
     ensures frame { λ r. ⌜ now (frame .exit) ≡ frameAfter look (now (font .entry)) (now (strip .entry)) (now (frame .entry)) ⌝ }
 {
-    let answer = draw_answer(look, font.len(), strip.len(), frame.len());
-    if let Answer::Done(_) = answer {
-        paint(look, font, strip, frame);
+    let answer = length_answer(look, font.len(), strip.len(), frame.len());
+    if answer::number(answer) != 0 {
+        return answer;
     }
+    paint(look, font, strip, frame);
     answer
 }

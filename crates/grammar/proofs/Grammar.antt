@@ -16,8 +16,8 @@ use Rattle.text.proofs.Repeats.{times-right, times-prefix, upTo-right, upTo-one
 use Rattle.text.proofs.Exclusions.{only-right, only-prefix}
 use Rattle.text.proofs.Hexes.{hex-right, hex-prefix}
 use Rattle.text.proofs.Back.{back-none}
-use Rattle.grammar.specs.Sheet.{deedByte, keyByte, valueByte, deedWord, pinsWord, writesWord, atWord, eq, nl, deedLine, pinsLine, countCode, writesLine, atLine, Annotation, free, ValidAnnotation, line, annotationLine, Fields, ValidSheet, front, lines, render, sheets}
-use Rattle.grammar.specs.Read.{readDeed, readPins, readAt, readNumber, readCount, toAnnotation, readAnnotation, readAnnotations, Front, readFront, readLines, toFields, readSheet}
+use Rattle.grammar.specs.Sheet.{deedByte, keyByte, valueByte, deedWord, pinsWord, writesWord, atWord, eq, nl, deedLine, pinsLine, countCode, writesLine, atLine, Annotation, free, ValidAnnotation, line, annotationLine, Fields, ValidSheet, lines, render, sheets}
+use Rattle.grammar.specs.Read.{readDeed, readPins, readAt, readNumber, readCount, toAnnotation, readAnnotation, readAnnotations, Lines, toFields, readSheet}
 use Rattle.grammar.proofs.Numbers.{countCode-right, countCode-prefix}
 use Rattle.grammar.proofs.Keys.{fill}
 
@@ -102,69 +102,88 @@ annotations-right = upTo-right annotationLine readAnnotation annotation-right an
 annotations-exact : Exact (upTo 200 annotationLine)
 annotations-exact l l' h h' e = upTo-one annotationLine readAnnotation annotation-right annotation-prefix least least-valid annotation-some 200 200 l l' h h' e
 
--- ---- the fixed lines together: deed, pins, number of writes, writes
-abbrev from3 : Code (ℕ × List ℕ)
-from3 = both writesLine (λ n. times n atLine)
+-- ---- the lines from each of the fixed ones to the end: codes and readings
+abbrev fromWrites : ℕ → Code (List ℕ × List Annotation)
+fromWrites n = both (times n atLine) (λ _. upTo 200 annotationLine)
 
-abbrev from2 : Code (ℕ × (ℕ × List ℕ))
-from2 = both pinsLine (λ _. from3)
+abbrev fromCount : Code (ℕ × (List ℕ × List Annotation))
+fromCount = both writesLine fromWrites
 
-abbrev pub frontCode : Code Front
-frontCode = both deedLine (λ _. from2)
+abbrev fromPins : Code (ℕ × (ℕ × (List ℕ × List Annotation)))
+fromPins = both pinsLine (λ _. fromCount)
 
-some-writes : (n : ℕ) → (l : List ℕ) × times n atLine .Valid l
-some-writes n = (replicate n 0, (all n, length-replicate n 0))
+abbrev fromDeed : Code Lines
+fromDeed = both deedLine (λ _. fromPins)
+
+abbrev pub readFromWrites : ℕ → List ℕ → Reading (List ℕ × List Annotation)
+readFromWrites n s = andThen s (readTimes readAt n s) (λ _. readAnnotations)
+
+abbrev pub readFromCount : List ℕ → Reading (ℕ × (List ℕ × List Annotation))
+readFromCount s = andThen s (readCount s) readFromWrites
+
+abbrev pub readFromPins : List ℕ → Reading (ℕ × (ℕ × (List ℕ × List Annotation)))
+readFromPins s = andThen s (readPins s) (λ _. readFromCount)
+
+abbrev readFromDeed : List ℕ → Reading Lines
+readFromDeed s = andThen s (readDeed s) (λ _. readFromPins)
+
+-- each has a valid value
+fromWrites-some : (n : ℕ) → (v : List ℕ × List Annotation) × fromWrites n .Valid v
+fromWrites-some n = ((replicate n 0, []), ((all n, length-replicate n 0), (tt, zero-le)))
   where
     all : (n : ℕ) → AllValid atLine (replicate n 0)
     all zero = tt
     all (suc n) = (omega arith, all n)
 
-some3 : (w : ℕ × List ℕ) × from3 .Valid w
-some3 = ((0, []), (zero-le, (tt, refl)))
+fromCount-some : (v : ℕ × (List ℕ × List Annotation)) × fromCount .Valid v
+fromCount-some = let w = fromWrites-some 0 in ((0, w .0), (zero-le, w .1))
 
-some2 : (w : ℕ × (ℕ × List ℕ)) × from2 .Valid w
-some2 = ((0, some3 .0), (omega arith, some3 .1))
+fromPins-some : (v : ℕ × (ℕ × (List ℕ × List Annotation))) × fromPins .Valid v
+fromPins-some = let w = fromCount-some in ((0, w .0), (omega arith, w .1))
 
-abbrev read3 : List ℕ → Reading (ℕ × List ℕ)
-read3 s = andThen s (readCount s) (λ n r. readTimes readAt n r)
+-- and is read rightly
+fromWrites-right : (n : ℕ) (s : List ℕ) → Right None (fromWrites n) s (readFromWrites n s)
+fromWrites-right n s = both-right (times n atLine) (λ _. upTo 200 annotationLine) None (writes-prefix n) (λ _ _. ([], (tt, zero-le))) s (readTimes readAt n s) (λ _. readAnnotations) (writes-right n s) (λ _ _. annotations-right)
 
-abbrev read2 : List ℕ → Reading (ℕ × (ℕ × List ℕ))
-read2 s = andThen s (readPins s) (λ _ r. read3 r)
+fromCount-right : (s : List ℕ) → Right None fromCount s (readFromCount s)
+fromCount-right s = both-right writesLine fromWrites None count-prefix (λ n _. fromWrites-some n) s (readCount s) readFromWrites (count-right s) (λ n _. fromWrites-right n)
 
-right3 : (s : List ℕ) → Right Any from3 s (read3 s)
-right3 s = both-right writesLine (λ n. times n atLine) Any count-prefix (λ n _. some-writes n) s (readCount s) (λ n r. readTimes readAt n r) (count-right s) (λ n _ r. writes-right n r)
+fromPins-right : (s : List ℕ) → Right None fromPins s (readFromPins s)
+fromPins-right s = both-right pinsLine (λ _. fromCount) None pins-prefix (λ _ _. fromCount-some) s (readPins s) (λ _. readFromCount) (pins-right s) (λ _ _. fromCount-right)
 
-right2 : (s : List ℕ) → Right Any from2 s (read2 s)
-right2 s = both-right pinsLine (λ _. from3) Any pins-prefix (λ _ _. some3) s (readPins s) (λ _ r. read3 r) (pins-right s) (λ _ _ r. right3 r)
+fromDeed-right : (s : List ℕ) → Right None fromDeed s (readFromDeed s)
+fromDeed-right s = both-right deedLine (λ _. fromPins) None deed-prefix (λ _ _. fromPins-some) s (readDeed s) (λ _. readFromPins) (deed-right s) (λ _ _. fromPins-right)
 
-pub front-right : (s : List ℕ) → Right Any frontCode s (readFront s)
-front-right s = both-right deedLine (λ _. from2) Any deed-prefix (λ _ _. some2) s (readDeed s) (λ _ r. read2 r) (deed-right s) (λ _ _ r. right2 r)
+-- and the bytes determine the value
+fromDeed-exact : Exact fromDeed
+fromDeed-exact =
+    both-exact deedLine (λ _. fromPins) deed-prefix λ _.
+    both-exact pinsLine (λ _. fromCount) pins-prefix λ _.
+    both-exact writesLine fromWrites count-prefix λ n.
+    both-exact (times n atLine) (λ _. upTo 200 annotationLine) (writes-prefix n) λ _. annotations-exact
 
-front-prefix : Prefix frontCode
-front-prefix = both-prefix deedLine (λ _. from2) deed-prefix (λ _. both-prefix pinsLine (λ _. from3) pins-prefix (λ _. both-prefix writesLine (λ n. times n atLine) count-prefix (λ n. writes-prefix n)))
+-- ---- the sheet: the number of writes is the length of their list
+sheet-same : Same fromDeed sheets toFields
+sheet-same = record { valid = valid; text = text; back = back }
+  where
+    regroup : (d p w t l : List ℕ) → (d ++ (p ++ (w ++ t))) ++ l ≡ d ++ (p ++ (w ++ (t ++ l)))
+    regroup d p w t l = simp append-assoc
 
--- ---- the sheet
-abbrev pub linesCode : Code (Front × List Annotation)
-linesCode = both frontCode (λ _. upTo 200 annotationLine)
+    valid : (v : Lines) → fromDeed .Valid v → ValidSheet (toFields v)
+    valid (d, (p, (n, (w, l)))) (hd, (hp, (hn, ((hw, m), hl)))) =
+        record { deedValid = hd; pinsValid = hp; countValid = subst (λ (k : ℕ). k ≤ 64) (sym m) hn; writesValid = hw; annotationsValid = hl }
 
-pub lines-right : (s : List ℕ) → Right None linesCode s (readLines s)
-lines-right s = both-right frontCode (λ _. upTo 200 annotationLine) None front-prefix (λ _ _. ([], (tt, zero-le))) s (readFront s) (λ _ r. readAnnotations r) (front-right s) (λ _ _ r. annotations-right r)
+    text : (v : Lines) → fromDeed .Valid v → render (toFields v) ≡ fromDeed .text v
+    text (d, (p, (n, (w, l)))) (hd, (hp, (hn, ((hw, m), hl)))) =
+        regroup (deedLine .text d) (pinsLine .text p) (writesLine .text (length w)) (texts atLine w) (lines l)
+        ∙ ap (λ (k : ℕ). deedLine .text d ++ (pinsLine .text p ++ (writesLine .text k ++ (texts atLine w ++ lines l)))) m
 
--- the number of writes is the length of their list
-pub front-text : (v : Front × List Annotation) → frontCode .Valid (v .0) → front (toFields v) ≡ frontCode .text (v .0)
-front-text v h = ap (λ (n : ℕ). deedLine .text (v .0 .0) ++ (pinsLine .text (v .0 .1 .0) ++ (writesLine .text n ++ texts atLine (v .0 .1 .1 .1)))) (h .1 .1 .1 .1)
-
-sheet-same : Same linesCode sheets toFields
-sheet-same =
-    record {
-      valid = λ v h. record { deedValid = h .0 .0; pinsValid = h .0 .1 .0; countValid = subst (λ (n : ℕ). n ≤ 64) (sym (h .0 .1 .1 .1 .1)) (h .0 .1 .1 .0); writesValid = h .0 .1 .1 .1 .0; annotationsValid = h .1 };
-      text = λ v h. ap (λ (l : List ℕ). l ++ lines (v .1)) (front-text v (h .0));
-      back = λ f h. (((f .deed, (f .pins, (length (f .writes), f .writes))), f .annotations), ((h .deedValid, (h .pinsValid, (h .countValid, (h .writesValid, refl)))), h .annotationsValid), refl);
-    }
+    back : (f : Fields) → ValidSheet f → (v : Lines) × fromDeed .Valid v × (toFields v ≡ f)
+    back f h = ((f .deed, (f .pins, (length (f .writes), (f .writes, f .annotations)))), (h .deedValid, (h .pinsValid, (h .countValid, ((h .writesValid, refl), h .annotationsValid)))), refl)
 
 -- the reading of the sheet is right
 pub sheet-right : (s : List ℕ) → Right None sheets s (readSheet s)
-sheet-right s = same-right linesCode sheets toFields sheet-same None s (readLines s) (lines-right s)
+sheet-right s = same-right fromDeed sheets toFields sheet-same None s (readFromDeed s) (fromDeed-right s)
 
 -- accepted: the bytes are those of valid fields
 pub accepted-fields : (s : List ℕ) (f : Fields) (n : ℕ) → readSheet s ≡ got f n → ValidSheet f × (s ≡ render f)
@@ -183,8 +202,8 @@ pub one-sheet : Exact sheets
 one-sheet f f' h h' e =
     let b = sheet-same .back f h in
     let b' = sheet-same .back f' h' in
-    let k : linesCode .text (b .0) ≡ linesCode .text (b' .0) = sym (sheet-same .text (b .0) (b .1)) ∙ ap render (b .2) ∙ e ∙ sym (ap render (b' .2)) ∙ sheet-same .text (b' .0) (b' .1) in
-    sym (b .2) ∙ ap toFields (both-exact frontCode (λ _. upTo 200 annotationLine) front-prefix (λ _. annotations-exact) (b .0) (b' .0) (b .1) (b' .1) k) ∙ b' .2
+    let k : fromDeed .text (b .0) ≡ fromDeed .text (b' .0) = sym (sheet-same .text (b .0) (b .1)) ∙ ap render (b .2) ∙ e ∙ sym (ap render (b' .2)) ∙ sheet-same .text (b' .0) (b' .1) in
+    sym (b .2) ∙ ap toFields (fromDeed-exact (b .0) (b' .0) (b .1) (b' .1) k) ∙ b' .2
 
 -- valid fields are read back
 pub read-back : (f : Fields) → ValidSheet f → readSheet (render f) ≡ got f (length (render f))

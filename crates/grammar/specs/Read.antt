@@ -52,23 +52,18 @@ readAnnotation s = mapped toAnnotation (andThen s (readOnly free (readClosed key
 abbrev pub readAnnotations : List ℕ → Reading (List Annotation)
 readAnnotations s = readUpTo readAnnotation 200 s
 
--- ---- the whole: the fixed lines, and then the annotations to the end
--- deed, pins, number of writes, writes
-abbrev pub Front : Type 0
-Front = List ℕ × (ℕ × (ℕ × List ℕ))
+-- ---- the whole: deed, pins, number of writes, writes, and the annotations to the end
+abbrev pub Lines : Type 0
+Lines = List ℕ × (ℕ × (ℕ × (List ℕ × List Annotation)))
 
-abbrev pub readFront : List ℕ → Reading Front
-readFront s =
+abbrev pub toFields : Lines → Fields
+toFields (deed, (pins, (count, (writes, annotations)))) = record { deed = deed; pins = pins; writes = writes; annotations = annotations }
+
+abbrev pub readSheet : List ℕ → Reading Fields
+readSheet s =
+    mapped toFields (
     andThen s (readDeed s) λ _ s.
     andThen s (readPins s) λ _ s.
     andThen s (readCount s) λ n s.
-    readTimes readAt n s
-
-abbrev pub readLines : List ℕ → Reading (Front × List Annotation)
-readLines s = andThen s (readFront s) (λ _ r. readAnnotations r)
-
-abbrev pub toFields : Front × List Annotation → Fields
-toFields v = record { deed = v .0 .0; pins = v .0 .1 .0; writes = v .0 .1 .1 .1; annotations = v .1 }
-
-abbrev pub readSheet : List ℕ → Reading Fields
-readSheet s = mapped toFields (readLines s)
+    andThen s (readTimes readAt n s) λ _ s.
+    readAnnotations s)

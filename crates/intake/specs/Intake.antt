@@ -7,13 +7,14 @@ use Rattle.paper.specs.Choose.{choose}
 use Rattle.paper.specs.Told.{Told, told, done}
 use Rattle.paper.specs.Order.{Check, check, firstOf}
 use Rattle.settings.specs.declared.Settings.{Settings}
+use Rattle.settings.specs.Fields.{settingsOf}
 use Rattle.settings.specs.Refusals.{pinsAbove, externalText, fastRate}
 use Rattle.control.specs.Control.{played, playOrder}
 use Rattle.grammar.specs.Given.{accepted, toldIn, fieldsIn}
 
 -- the settings that a sheet gives: its writes played from reset, and its pins
 unfoldable pub settingsIn : List ℕ → Settings
-settingsIn s = record { word = played 0 (fieldsIn s .writes); look = record { pins = fieldsIn s .pins } }
+settingsIn s = settingsOf (played 0 (fieldsIn s .writes)) (fieldsIn s .pins)
 
 -- 1, 2, 4
 abbrev pub settingOrder : Settings → List Check
@@ -28,7 +29,7 @@ intakeTold s = firstOf (intakeOrder s) (done 0)
 
 -- a refusal gives the word of reset and pins 0
 abbrev pub noSettings : Settings
-noSettings = record { word = 0; look = record { pins = 0 } }
+noSettings = settingsOf 0 0
 
 unfoldable pub settingsGiven : List ℕ → Settings
 settingsGiven s = choose (eqb (intakeTold s .number) 0) (settingsIn s) noSettings

@@ -35,11 +35,10 @@ fn settings_answer(settings: Settings) -> Answer
     ensures { λ r. ⌜ toldOf r ≡ firstOf (settingOrder settings) (done 0) ⌝ }
 {
     let look = settings.look;
-    let text = !settings::graphics(look);
     let mut answer = Answer::Done(0);
-    answer = answer::check(answer, 63 < look.pins, Answer::PinsAbove);
-    answer = answer::check(answer, text & settings::external(look), Answer::External);
-    answer::check(answer, settings::fast(settings), Answer::FastRate)
+    answer = settings::pins_above(answer, look);
+    answer = settings::external_text(answer, look);
+    settings::fast_rate(answer, settings)
 }
 
 // The settings of a sheet; it is refused with 11, 10, 1, 2, 4, in this order.

@@ -6,6 +6,7 @@ use mathlib.Core.List.{List, [], _∷_, _++_}
 use mathlib.Core.Bool.{Bool, true, false, _&&_}
 use lib.Dec.{eqb}
 use lib.ListN.{length, take, drop, length-append}
+use Rattle.paper.proofs.Choices.{and-false}
 use Rattle.text.specs.Code.{Reading, got, stuck, Any, Accepted, Right}
 use Rattle.text.specs.Combine.{shift, closed, readClosed}
 use Rattle.text.proofs.Runs.{closed-right}
@@ -18,11 +19,6 @@ use Rattle.outline.specs.declared.Step.{Step}
 use Rattle.grammar.proofs.Grammar.{annotation-right, annotation-some}
 use Rattle.outline.proofs.Stepped.{step, whole-got, not-whole, step-shift, step-mapped}
 use Rattle.outline.proofs.Counting.{counted}
-
--- with its `=` a key is a fixed one exactly if it is one without
-and-false : (a : Bool) → a && false ≡ false
-and-false true = refl
-and-false false = refl
 
 none-same : (l : List ℕ) → (same [] (l ++ eq) ≡ false) × (same (l ++ eq) [] ≡ false)
 none-same [] = (refl, refl)

@@ -2,15 +2,12 @@
 use Prim.Native.Nat.{_<_}
 use native.Mathlib.Omega.{arith}
 use mathlib.Core.Path.{_≡_, refl, ap}
-use mathlib.Core.List.{List}
 use mathlib.Core.Bool.{true, false}
 use lib.ListN.{length}
 use Rattle.paper.specs.Told.{done, told}
 use Rattle.text.specs.Code.{Reading, got, stuck}
-use Rattle.text.specs.Combine.{mapped}
 use Rattle.text.proofs.Tests.{clash}
-use Rattle.grammar.specs.Sheet.{Annotation, Fields, front}
-use Rattle.grammar.specs.Read.{Front, toFields}
+use Rattle.grammar.specs.Sheet.{Fields, front}
 use Rattle.grammar.specs.Given.{isGot, toldRead, noFields, fieldsRead, padded}
 use Rattle.outline.specs.Steps.{outlineOf}
 use Rattle.outline.specs.declared.Outline.{Outline}
@@ -24,26 +21,31 @@ pub record WholeGiven (o : Reading Fields) (r : Outline) : Type 0 where
   pub count : r .«write_count» ≡ length (fieldsRead o .writes)
   pub tail : r .tail ≡ length (front (fieldsRead o))
 
-module _ (o : Reading (Front × List Annotation)) (r : Outline) (e : r ≡ outlineOf o) where
-  pub whole-given : r .whole ≡ true → WholeGiven (mapped toFields o) r
+pub record BrokenGiven (o : Reading Fields) (r : Outline) : Type 0 where
+  pub not-got : isGot o ≡ false
+  pub told-broken : told 11 (r .place) 0 ≡ toldRead o
+  pub no-fields : noFields ≡ fieldsRead o
+
+module _ (o : Reading Fields) (r : Outline) (e : r ≡ outlineOf o) where
+  pub whole-given : r .whole ≡ true → WholeGiven o r
   whole-given h = go o e
     where
-      go : (o : Reading (Front × List Annotation)) → r ≡ outlineOf o → WholeGiven (mapped toFields o) r
+      go : (o : Reading Fields) → r ≡ outlineOf o → WholeGiven o r
       go (got v n) e =
           record { is-got = refl; told-done = refl; deed = ap (λ (x : Outline). x .deed) e; pins = ap (λ (x : Outline). x .pins) e; writes = ap (λ (x : Outline). x .writes) e; count = ap (λ (x : Outline). x .«write_count») e; tail = ap (λ (x : Outline). x .tail) e }
       go (stuck n) e = absurd (clash h (ap (λ (x : Outline). x .whole) e))
 
-  pub broken-given : r .whole ≡ false → (isGot (mapped toFields o) ≡ false) × (told 11 (r .place) 0 ≡ toldRead (mapped toFields o)) × (noFields ≡ fieldsRead (mapped toFields o))
+  pub broken-given : r .whole ≡ false → BrokenGiven o r
   broken-given h = go o e
     where
-      go : (o : Reading (Front × List Annotation)) → r ≡ outlineOf o → (isGot (mapped toFields o) ≡ false) × (told 11 (r .place) 0 ≡ toldRead (mapped toFields o)) × (noFields ≡ fieldsRead (mapped toFields o))
+      go : (o : Reading Fields) → r ≡ outlineOf o → BrokenGiven o r
       go (got v n) e = absurd (clash (ap (λ (x : Outline). x .whole) e) h)
-      go (stuck n) e = (refl, ap (λ (x : Outline). told 11 (x .place) 0) e, refl)
+      go (stuck n) e = record { not-got = refl; told-broken = ap (λ (x : Outline). told 11 (x .place) 0) e; no-fields = refl }
 
-  pub count-given : r .annotations ≡ length (fieldsRead (mapped toFields o) .annotations)
+  pub count-given : r .annotations ≡ length (fieldsRead o .annotations)
   count-given = go o e
     where
-      go : (o : Reading (Front × List Annotation)) → r ≡ outlineOf o → r .annotations ≡ length (fieldsRead (mapped toFields o) .annotations)
+      go : (o : Reading Fields) → r ≡ outlineOf o → r .annotations ≡ length (fieldsRead o .annotations)
       go (got v n) e = ap (λ (x : Outline). x .annotations) e
       go (stuck n) e = ap (λ (x : Outline). x .annotations) e
 
@@ -51,6 +53,6 @@ module _ (o : Reading (Front × List Annotation)) (r : Outline) (e : r ≡ outli
   pub some-whole : 0 < r .annotations → r .whole ≡ true
   some-whole h = go o e
     where
-      go : (o : Reading (Front × List Annotation)) → r ≡ outlineOf o → r .whole ≡ true
+      go : (o : Reading Fields) → r ≡ outlineOf o → r .whole ≡ true
       go (got v n) e = ap (λ (x : Outline). x .whole) e
       go (stuck n) e = absurd (omega (arith, h, ap (λ (x : Outline). x .annotations) e))

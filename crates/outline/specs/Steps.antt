@@ -5,8 +5,7 @@ use mathlib.Core.Bool.{Bool, true, false, not, _||_}
 use lib.ListN.{length, replicate}
 use Rattle.text.specs.Code.{Reading, got, stuck}
 use Rattle.text.specs.Hex.{hexByte}
-use Rattle.grammar.specs.Sheet.{deedByte, keyByte, valueByte, deedWord, pinsWord, writesWord, atWord, eq, same, Annotation, front}
-use Rattle.grammar.specs.Read.{Front, toFields}
+use Rattle.grammar.specs.Sheet.{deedByte, keyByte, valueByte, deedWord, pinsWord, writesWord, atWord, eq, same, Fields, front}
 use Rattle.grammar.specs.Given.{padded}
 use Rattle.outline.specs.declared.Class.{Class}
 use Rattle.outline.specs.declared.Class.the-variants.{Deed, Hex, Key, Value}
@@ -37,8 +36,8 @@ writesOf (got l n) = record { whole = true; size = n; writes = padded 64 l }
 writesOf (stuck n) = record { whole = false; size = n; writes = replicate 64 0 }
 
 -- the fields of a whole sheet, the length of its deed and where its annotations begin; else only the place
-abbrev pub outlineOf : Reading (Front × List Annotation) → Outline
-outlineOf (got v n) = record { whole = true; place = 0; deed = length (v .0 .0); pins = v .0 .1 .0; writes = padded 64 (v .0 .1 .1 .1); «write_count» = length (v .0 .1 .1 .1); tail = length (front (toFields v)); annotations = length (v .1) }
+abbrev pub outlineOf : Reading Fields → Outline
+outlineOf (got f n) = record { whole = true; place = 0; deed = length (f .deed); pins = f .pins; writes = padded 64 (f .writes); «write_count» = length (f .writes); tail = length (front f); annotations = length (f .annotations) }
 outlineOf (stuck n) = record { whole = false; place = n; deed = 0; pins = 0; writes = replicate 64 0; «write_count» = 0; tail = 0; annotations = 0 }
 
 -- a key with its `=` that is none of the fixed ones

@@ -7,7 +7,7 @@ ghost use Rattle.text.specs.Code.{stuck};
 ghost use Rattle.text.specs.Combine.{All, span, common, readClosed, readLed, readTimes};
 ghost use Rattle.text.specs.Hex.{between, hexByte, unhex, hexValue};
 ghost use Rattle.grammar.specs.Sheet.{same};
-ghost use Rattle.grammar.specs.Read.{closing as closingRead, more, readSecond, readNumber, readCount, readAt, readAnnotation, readAnnotations, readLines};
+ghost use Rattle.grammar.specs.Read.{closing as closingRead, more, readSecond, readNumber, readCount, readAt, readAnnotation, readAnnotations, readSheet};
 ghost use Rattle.grammar.specs.Given.{accepted, fieldsIn, tailFrom, annotationFrom, lineAt};
 ghost use Rattle.outline.specs.Steps.{classOf, stepOf, countedOf, writesOf, outlineOf, freeKey};
 
@@ -16,9 +16,9 @@ pub const DEED_KEY: [u8; 5] = *b"deed=";
 
 pub const PINS_KEY: [u8; 5] = *b"pins=";
 
-pub const WRITES_KEY: [u8; 7] = *b"writes=";
+const WRITES_KEY: [u8; 7] = *b"writes=";
 
-pub const AT_KEY: [u8; 3] = *b"at=";
+const AT_KEY: [u8; 3] = *b"at=";
 
 // The classes of bytes that fields are made of.
 enum Class {
@@ -441,7 +441,7 @@ fn broken(place: usize) -> Outline
 
 // One pass over a sheet, line by line in their order.
 pub fn survey(s: &[u8]) -> Outline
-    ensures { λ r. ⌜ r ≡ outlineOf (readLines (now (s .entry))) ⌝ }
+    ensures { λ r. ⌜ r ≡ outlineOf (readSheet (now (s .entry))) ⌝ }
 {
     let deed = keyed_line(s, 0, &DEED_KEY, Class::Deed, 1, 16);
     if !deed.whole {

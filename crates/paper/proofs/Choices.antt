@@ -1,6 +1,6 @@
 -- Laws of tests, and of a choice by one.
 use mathlib.Core.Path.{_≡_, refl}
-use mathlib.Core.Bool.{Bool, true, false, _||_}
+use mathlib.Core.Bool.{Bool, true, false, _&&_, _||_}
 use mathlib.Core.Logic.{_⊎_, inl, inr}
 use Rattle.paper.specs.Choose.{choose}
 
@@ -18,3 +18,13 @@ by-test false f g = g refl
 pub either : (a b : Bool) → a || b ≡ true → (a ≡ true) ⊎ (b ≡ true)
 either true b h = inl refl
 either false b h = inr h
+
+-- both of two tests pass
+pub both-pass : (a b : Bool) → a && b ≡ true → (a ≡ true) × (b ≡ true)
+both-pass true b h = (refl, h)
+both-pass false b h = (h, cc)
+
+-- a test and one that fails
+pub and-false : (a : Bool) → a && false ≡ false
+and-false true = refl
+and-false false = refl

@@ -1,4 +1,4 @@
--- Laws of `Filled` and `written`: how a run of stores begins, grows and joins, and that it leaves one list only.
+-- Laws of `Filled`, `written` and `leaves`: how a run of stores begins, grows and joins, and that it leaves one list only.
 use Prim.Native.Nat.{ℕ, zero, suc, _+_, _≤_, _<_}
 use mathlib.Core.Path.{_≡_, refl, sym, _∙_}
 use mathlib.Core.List.{List}
@@ -6,10 +6,14 @@ use mathlib.Core.Logic.{_⊎_, inl, inr, ⊎-elim}
 use native.Mathlib.Omega.{arith}
 use native.Mathlib.Numerals.{add-one}
 use native.Mathlib.Decide.{decLt}
+use borrow.Author.Tests.{eq-eqb, ne-eqb}
+use lib.Dec.{eqb}
 use lib.ListN.{length, getD, set, length-set}
 use lib.Seq.{getD-set-same, getD-set-other, ext-getD}
 use borrow.Author.Count.{below-more}
-use Rattle.paper.specs.Written.{written, Filled}
+use Rattle.paper.specs.Told.{Told}
+use Rattle.paper.specs.Written.{written, leaves, Filled}
+use Rattle.paper.proofs.Choices.{of-both}
 
 by-dec : (k n : ℕ) → Dec (k < n) → (k < n) ⊎ (n ≤ k)
 by-dec k n (yes p) = inl p
@@ -90,3 +94,17 @@ pub written-by : {g h : ℕ → ℕ} (n : ℕ) (old : List ℕ) → ((k : ℕ) �
 unfolding written
 written-by zero old e = refl
 written-by {g} {h} (suc n) old e = rw (written-by {g = g} {h = h} n old (λ k l. e k (omega arith)), e n (omega arith))
+
+-- what a call leaves where it is done, where it is refused, and that it keeps a length
+module _ (t : Told) (new old : List ℕ) where
+  pub leaves-done : t .number ≡ 0 → leaves t new old ≡ new
+  unfolding leaves
+  leaves-done e = simp (eq-eqb _ _ e)
+
+  pub leaves-refused : (t .number ≡ 0 → ⊥) → leaves t new old ≡ old
+  unfolding leaves
+  leaves-refused h = simp (ne-eqb _ _ h)
+
+  pub leaves-long : length new ≡ length old → length (leaves t new old) ≡ length old
+  unfolding leaves
+  leaves-long e = of-both (λ (x : List ℕ). length x ≡ length old) (eqb (t .number) 0) e refl

@@ -31,17 +31,7 @@ first-at p zero (suc n) h e l = simp e
 first-at p (suc k) (suc n) h e l =
     simp (h 0 (omega arith)) (ap suc (first-at (λ (i : ℕ). p (suc i)) k n (λ j m. h (suc j) (omega arith)) e (le-of-suc-le-suc l)))
 
--- and where it is below n, the test holds there
-holds-by : (p : ℕ → Bool) (b : Bool) (m n : ℕ) → p 0 ≡ b → (m < n → p (suc m) ≡ true) → choose b 0 (suc m) < suc n → p (choose b 0 (suc m)) ≡ true
-holds-by p true m n e h l = e
-holds-by p false m n e h l = h (le-of-suc-le-suc l)
-
-pub first-holds : (p : ℕ → Bool) (n : ℕ) → firstWhere p n < n → p (firstWhere p n) ≡ true
-unfolding firstWhere
-first-holds p zero l = absurd (omega arith)
-first-holds p (suc n) l = holds-by p (p 0) (firstWhere (λ (k : ℕ). p (suc k)) n) n refl (first-holds (λ (k : ℕ). p (suc k)) n) l
-
--- and at no place before it
+-- and the test holds at no place before it
 before-by : (p : ℕ → Bool) (b : Bool) (m j : ℕ) → p 0 ≡ b → ((i : ℕ) → i < m → p (suc i) ≡ false) → j < choose b 0 (suc m) → p j ≡ false
 before-by p true m j e h l = absurd (omega arith)
 before-by p false m zero e h l = e

@@ -1,15 +1,16 @@
 -- The law of an order of refusals: each number exactly when its condition holds and none earlier does, and done exactly when none does.
 use Prim.Native.Nat.{ℕ, _<_}
-use mathlib.Core.Path.{_≡_, refl, _∙_}
-use mathlib.Core.Bool.{Bool, true, false, _&&_}
-use mathlib.Core.List.{List, [], _∷_, _++_}
+use mathlib.Core.Path.{_≡_, refl, ap, _∙_}
+use mathlib.Core.Bool.{Bool, true, false, _&&_, _||_}
+use mathlib.Core.List.{List, [], _∷_}
 use mathlib.Core.Logic.{_⊎_, inl, inr, ⊎-elim, _↔_}
 use native.Mathlib.Omega.{arith}
-use borrow.Author.Tests.{ne-eqb}
+use borrow.Author.Tests.{eq-eqb, ne-eqb}
 use lib.Dec.{T, eqb, ltb, ltb→lt}
 use Rattle.paper.specs.Choose.{choose}
 use Rattle.paper.specs.Told.{Told}
-use Rattle.paper.specs.Order.{Check, firstOf, NoneHolds, HoldsFirst, areRefusals}
+use Rattle.paper.specs.Order.{Check, after, firstOf, NoneHolds, HoldsFirst, areRefusals}
+use Rattle.paper.proofs.Choices.{of-both}
 
 -- both halves of a test that passes
 pub both : (a b : Bool) → T (a && b) → T a × T b
@@ -52,19 +53,60 @@ module _ (other : Told) (done : other .number ≡ 0) where
       let s = both (ltb 0 (c .says .number)) (areRefusals cs) r in
       done-by-test (c .when) (c .says) cs (ltb→lt 0 (c .says .number) (s .0)) (done-says cs (s .1)) e
 
-  more-by-test : (b : Bool) (t : Told) (x y : Told) (w : Bool) (u : Told) → 0 < t .number → choose (eqb (x .number) 0 && w) u x ≡ y
-      → choose (eqb (choose b t x .number) 0 && w) u (choose b t x) ≡ choose b t y
-  more-by-test true t x y w u h e = rw (ne-eqb (t .number) 0 (λ z. omega arith))
-  more-by-test false t x y w u h e = e
+-- ---- facts by number
+-- the checks of an order that have one of these numbers, in its order
+abbrev pub among : List ℕ → ℕ → Bool
+among [] n = false
+among (m ∷ ms) n = eqb m n || among ms n
 
-  -- one check more at the end of an order: it says what it says where no earlier one did
-  one-more : (cs : List Check) (c : Check) → T (areRefusals cs)
-      → choose (eqb (firstOf cs other .number) 0 && c .when) (c .says) (firstOf cs other) ≡ firstOf (cs ++ (c ∷ [])) other
-  one-more [] c r = rw done
-  one-more (b ∷ cs) c r =
-      let s = both (ltb 0 (b .says .number)) (areRefusals cs) r in
-      more-by-test (b .when) (b .says) (firstOf cs other) (firstOf (cs ++ (c ∷ [])) other) (c .when) (c .says) (ltb→lt 0 (b .says .number) (s .0)) (one-more cs c (s .1))
+abbrev pub only : List ℕ → List Check → List Check
+only ns [] = []
+only ns (c ∷ cs) = choose (among ns (c .says .number)) (c ∷ only ns cs) (only ns cs)
 
-  -- the same of what was told by the checks before
-  pub checked : {s t : Told} (cs : List Check) (c : Check) → T (areRefusals cs) → s ≡ firstOf cs other → t ≡ choose (eqb (s .number) 0 && c .when) (c .says) s → t ≡ firstOf (cs ++ (c ∷ [])) other
-  checked cs c r e p = rw e at p ∙ one-more cs c r
+-- an order with another check under its number
+abbrev pub instead : Check → List Check → List Check
+instead c [] = []
+instead c (b ∷ bs) = choose (eqb (c .says .number) (b .says .number)) c b ∷ instead c bs
+
+-- where no condition holds, none does of those that have one of these numbers: `passing (7 ∷ []) order none .0` is what 7 asks
+passing-by : (b : Bool) (c : Check) (cs : List Check) → c .when ≡ false → NoneHolds cs → NoneHolds (choose b (c ∷ cs) cs)
+passing-by true c cs e n = (e, n)
+passing-by false c cs e n = n
+
+pub passing : (ns : List ℕ) (cs : List Check) → NoneHolds cs → NoneHolds (only ns cs)
+passing ns [] n = tt
+passing ns (c ∷ cs) n = passing-by (among ns (c .says .number)) c (only ns cs) (n .0) (passing ns cs (n .1))
+
+-- nor where another check that passes stands in the place of one
+pub instead-passes : (c : Check) (cs : List Check) → c .when ≡ false → NoneHolds cs → NoneHolds (instead c cs)
+instead-passes c [] e n = tt
+instead-passes c (b ∷ bs) e n = (of-both (λ (x : Check). x .when ≡ false) (eqb (c .says .number) (b .says .number)) e (n .0), instead-passes c bs e (n .1))
+
+-- ---- checks one after the other, as the code makes them
+abbrev pub afterEach : List Check → Told → Told
+afterEach [] t = t
+afterEach (c ∷ cs) t = afterEach cs (after c t)
+
+-- a refusal that was given stays
+after-refusal : (c : Check) (t : Told) → 0 < t .number → after c t ≡ t
+unfolding after
+after-refusal c t h = simp (ne-eqb (t .number) 0 (λ z. omega arith))
+
+settled : (cs : List Check) (t : Told) → 0 < t .number → afterEach cs t ≡ t
+settled [] t h = refl
+settled (c ∷ cs) t h = ap (afterEach cs) (after-refusal c t h) ∙ settled cs t h
+
+module _ (other : Told) (done : other .number ≡ 0) where
+  first-after : (a b : Bool) (t : Told) (cs : List Check) → a ≡ true → 0 < t .number → afterEach cs other ≡ firstOf cs other
+      → afterEach cs (choose (a && b) t other) ≡ choose b t (firstOf cs other)
+  first-after true true t cs z h e = settled cs t h
+  first-after true false t cs z h e = e
+  first-after false b t cs z h e = let q : _≡_ {A = ℕ} 0 1 = cc in absurd (omega arith)
+
+  -- they tell what the order says
+  pub in-order : (cs : List Check) → T (areRefusals cs) → afterEach cs other ≡ firstOf cs other
+  unfolding after
+  in-order [] r = refl
+  in-order (c ∷ cs) r =
+      let s = both (ltb 0 (c .says .number)) (areRefusals cs) r in
+      first-after (eqb (other .number) 0) (c .when) (c .says) cs (eq-eqb (other .number) 0 done) (ltb→lt 0 (c .says .number) (s .0)) (in-order cs (s .1))

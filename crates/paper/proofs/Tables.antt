@@ -1,4 +1,4 @@
--- The computed test: what is tested of every entry of a table, or of every number below a bound, holds of each.
+-- A table's rule, said once: what is tested of every number below a bound holds of each, and what holds of every entry holds of the one that is read.
 use Prim.Native.Nat.{ℕ, zero, suc, _<_}
 use mathlib.Core.Bool.{Bool, true, _&&_}
 use mathlib.Core.List.{List, [], _∷_}
@@ -7,16 +7,6 @@ use native.Mathlib.Nat.{le-of-suc-le-suc, not-suc-le-zero, eq-or-lt-of-le}
 use lib.Dec.{T}
 use lib.ListN.{getD, length}
 use Rattle.paper.proofs.Orders.{both}
-
--- the test passes at every entry
-abbrev pub every : {A : Type 0} → (A → Bool) → List A → Bool
-every p [] = true
-every p (x ∷ xs) = p x && every p xs
-
-pub entry : {A : Type 0} (p : A → Bool) (xs : List A) (d : A) → T (every p xs) → (k : ℕ) → k < length xs → T (p (getD xs k d))
-entry p [] d t k h = absurd (not-suc-le-zero h)
-entry p (x ∷ xs) d t zero h = both (p x) (every p xs) t .0
-entry p (x ∷ xs) d t (suc k) h = entry p xs d (both (p x) (every p xs) t .1) k (le-of-suc-le-suc h)
 
 -- the test passes at every number below n
 abbrev pub everyBelow : (ℕ → Bool) → ℕ → Bool
@@ -28,3 +18,13 @@ each-below p zero t k h = absurd (not-suc-le-zero h)
 each-below p (suc n) t k h =
     let s = both (p n) (everyBelow p n) t in
     ⊎-elim (λ e. rw e (s .0)) (λ l. each-below p n (s .1) k l) (eq-or-lt-of-le (le-of-suc-le-suc h))
+
+-- P holds of every entry
+abbrev pub Each : {A : Type 0} → (A → Type 0) → List A → Type 0
+Each P [] = Unit {0}
+Each P (x ∷ xs) = P x × Each P xs
+
+pub each : {A : Type 0} (P : A → Type 0) (xs : List A) (d : A) → Each P xs → (k : ℕ) → k < length xs → P (getD xs k d)
+each P [] d e k h = absurd (not-suc-le-zero h)
+each P (x ∷ xs) d e zero h = e .0
+each P (x ∷ xs) d e (suc k) h = each P xs d (e .1) k (le-of-suc-le-suc h)

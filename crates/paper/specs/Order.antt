@@ -4,7 +4,7 @@ use mathlib.Core.Path.{_≡_}
 use mathlib.Core.Bool.{Bool, true, false, _&&_}
 use mathlib.Core.List.{List, [], _∷_}
 use mathlib.Core.Logic.{_⊎_}
-use lib.Dec.{ltb}
+use lib.Dec.{ltb, eqb}
 use Rattle.paper.specs.Choose.{choose}
 use Rattle.paper.specs.Told.{Told}
 
@@ -15,6 +15,10 @@ pub record Check : Type 0 where
 
 abbrev pub check : Bool → Told → Check
 check b t = record { when = b; says = t }
+
+-- what is told after one more check: what it says where nothing was refused before and its condition holds
+unfoldable pub after : Check → Told → Told
+after c t = choose (eqb (t .number) 0 && c .when) (c .says) t
 
 -- what the first condition that holds says, and `other` where none does
 abbrev pub firstOf : List Check → Told → Told

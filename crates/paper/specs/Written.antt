@@ -2,12 +2,23 @@
 use Prim.Native.Nat.{ℕ, zero, suc, _<_, _≤_}
 use mathlib.Core.Path.{_≡_}
 use mathlib.Core.List.{List}
+use lib.Dec.{eqb}
 use lib.ListN.{length, getD, set}
+use Rattle.paper.specs.Choose.{choose}
+use Rattle.paper.specs.Told.{Told}
+
+-- what a lent slice of bytes holds: numbers below 256
+abbrev pub Bytes : List ℕ → Type 0
+Bytes l = (k : ℕ) → getD l k 0 < 256
 
 -- old, with g 0, g 1, .., g (n - 1) stored at its first n places; a store past the end changes nothing
 unfoldable pub written : (ℕ → ℕ) → ℕ → List ℕ → List ℕ
 written g zero old = old
 written g (suc n) old = set (written g n old) n (g n)
+
+-- what a call of which t is told leaves of a buffer: what it writes where it is done; a refusal stores nothing
+unfoldable pub leaves : Told → List ℕ → List ℕ → List ℕ
+leaves t new old = choose (eqb (t .number) 0) new old
 
 -- new is old with g k at each place k from a to below n
 pub record Filled (g : ℕ → ℕ) (a n : ℕ) (old new : List ℕ) : Type 0 where

@@ -8,7 +8,8 @@ use native.Mathlib.Nat.{mod-lt, div-lt-iff-lt-mul, mul-lt-mul-of-pos-right, mul-
 use lib.Dec.{T, eqb, eqb→eq, lit<}
 use lib.ListN.{getD}
 use Rattle.paper.specs.Choose.{choose}
-use Rattle.paper.proofs.Tables.{each-below}
+use Rattle.paper.proofs.Choices.{of-both}
+use Rattle.paper.proofs.Tables.{each-below, each}
 use Rattle.settings.specs.declared.Look.{Look}
 use Rattle.settings.specs.Fields.{graphics, gm, gm0}
 use Rattle.settings.specs.Modes.{widths, elements, width, dots}
@@ -31,6 +32,9 @@ module _ {A : Type 0} (l : Look) (rg : eqb (gm0 l) 1 ≡ true → count l ≡ 8 
   pub by-mode : A
   by-mode = by-test (eqb (gm0 l) 1) refl
 
+abbrev Dots : ℕ → Type 0
+Dots d = (d ≡ 1) ⊎ ((d ≡ 2) ⊎ (d ≡ 4))
+
 module _ (l : Look) (g : graphics l ≡ true) where
   a-line : count l * dots l * width l ≡ 256
   unfolding count dots width
@@ -49,18 +53,15 @@ module _ (l : Look) (g : graphics l ≡ true) where
       (λ _ c. ⊎-elim (λ (w : width l ≡ 16). rw (c, w) (omega (arith, sized c w))) (λ (w : width l ≡ 32). rw (c, w) (omega (arith, sized c w))) (width-cases l))
       (λ _ c. ⊎-elim (λ (w : width l ≡ 16). rw (c, w) (omega (arith, sized c w))) (λ (w : width l ≡ 32). rw (c, w) (omega (arith, sized c w))) (width-cases l))
 
-  pub dots-pos : 0 < dots l
-  dots-pos =
-      by-mode l
-      (λ _ c. ⊎-elim (λ (w : width l ≡ 16). omega (arith, sized c w)) (λ (w : width l ≡ 32). omega (arith, sized c w)) (width-cases l))
-      (λ _ c. ⊎-elim (λ (w : width l ≡ 16). omega (arith, sized c w)) (λ (w : width l ≡ 32). omega (arith, sized c w)) (width-cases l))
-
   -- an element has one dot, two or four
   pub dots-cases : (dots l ≡ 1) ⊎ ((dots l ≡ 2) ⊎ (dots l ≡ 4))
+  unfolding dots
   dots-cases =
-      by-mode l
-      (λ _ c. ⊎-elim (λ (w : width l ≡ 16). inr (inl (omega (arith, sized c w)))) (λ (w : width l ≡ 32). inl (omega (arith, sized c w))) (width-cases l))
-      (λ _ c. ⊎-elim (λ (w : width l ≡ 16). inr (inr (omega (arith, sized c w)))) (λ (w : width l ≡ 32). inr (inl (omega (arith, sized c w)))) (width-cases l))
+      let two = inr (inl refl) in
+      of-both Dots (graphics l) (each Dots elements 0 (inr (inr refl), (two, (two, (two, (two, (two, (two, (inl refl, tt)))))))) (gm l) (mod-lt _ (lit< tt))) (inl refl)
+
+  pub dots-pos : 0 < dots l
+  dots-pos = ⊎-elim (λ e. omega arith) (⊎-elim (λ e. omega arith) (λ e. omega arith)) dots-cases
 
   -- so dot t is of element t / dots, and element j begins at dot j × dots
   pub element-below : (t : ℕ) → t < breadth l → t / dots l < count l

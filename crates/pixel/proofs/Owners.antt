@@ -10,6 +10,7 @@ use Rattle.settings.specs.declared.Look.{Look}
 use Rattle.settings.specs.Fields.{graphics}
 use Rattle.settings.specs.Modes.{width}
 use Rattle.settings.proofs.Widths.{width-cases}
+use Rattle.settings.specs.Refusals.{frameLength}
 use Rattle.pixel.specs.Dots.{black, oneBit}
 use Rattle.pixel.specs.Graphics.{graphic}
 use Rattle.pixel.specs.Text.{lit, ink}
@@ -26,7 +27,7 @@ module _ (l : Look) where
   dot-mod k = ⊎-elim (λ w. rw w (omega arith)) (λ w. rw w (omega arith)) (width-cases l)
 
   -- a pixel is drawn by one of the 192 × W bytes
-  pub owner-below : (k : ℕ) → k < 49152 → owner l k < 192 * width l
+  pub owner-below : (k : ℕ) → k < frameLength → owner l k < 192 * width l
   unfolding owner
   owner-below k = ⊎-elim (λ w. rw w (λ h. omega arith)) (λ w. rw w (λ h. omega arith)) (width-cases l)
 
@@ -43,7 +44,7 @@ module _ (l : Look) where
   unfolding dot
   drawn-as i t = ⊎-elim (λ w. rw w (λ h. omega arith)) (λ w. rw w (λ h. omega arith)) (width-cases l)
 
-  pub drawn-within : (i t : ℕ) → i < 192 * width l → t < breadth l → i * breadth l + t < 49152
+  pub drawn-within : (i t : ℕ) → i < 192 * width l → t < breadth l → i * breadth l + t < frameLength
   drawn-within i t = ⊎-elim (λ w. rw w (λ h m. omega arith)) (λ w. rw w (λ h m. omega arith)) (width-cases l)
 
   pub drawn-at : (k : ℕ) → owner l k * breadth l + dot l k ≡ k

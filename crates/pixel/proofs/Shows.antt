@@ -13,6 +13,7 @@ use Rattle.paper.specs.Choose.{choose}
 use Rattle.settings.specs.declared.Look.{Look}
 use Rattle.settings.specs.Fields.{graphics, css}
 use Rattle.settings.specs.Modes.{width, dots}
+use Rattle.settings.specs.Refusals.{frameLength}
 use Rattle.pixel.specs.Dots.{black, bit, oneBit}
 use Rattle.pixel.specs.Graphics.{count, element}
 use Rattle.pixel.specs.Picture.{breadth, owner, picture}
@@ -61,7 +62,7 @@ module _ (l : Look) (b c : ℕ) (h : b < 256) (i : c < 256) where
 -- where byte i of two strips differs, so does a pixel that it draws
 module _ (l : Look) (font S R : List ℕ) (g : graphics l ≡ true) (i : ℕ) (m : i < 192 * width l) where
   pub shows : getD S i 0 < 256 → getD R i 0 < 256 → (getD S i 0 ≡ getD R i 0 → ⊥)
-      → (k : ℕ) × (k < 49152) × (owner l k ≡ i) × (picture l font S k ≡ picture l font R k → ⊥)
+      → (k : ℕ) × (k < frameLength) × (owner l k ≡ i) × (picture l font S k ≡ picture l font R k → ⊥)
   shows h n d =
       let s = some-element l (getD S i 0) (getD R i 0) h n d in
       let w = dot-within l g (s .0) (s .1) in

@@ -3,28 +3,55 @@ use answer::Answer;
 use settings::Settings;
 ghost use mathlib.Core.Path.{_≡_};
 ghost use lib.ListN.{length};
+ghost use Rattle.paper.specs.Told.{done};
+ghost use Rattle.paper.specs.Order.{firstOf};
 ghost use Rattle.answer.specs.Told.{toldOf};
-ghost use Rattle.screen.specs.Show.{showTold, stripShown, frameShown};
+ghost use Rattle.settings.specs.Modes.{border};
+ghost use Rattle.screen.specs.Show.{showLengths, showTold, stripShown, frameShown};
 
-// What both at once answers, from the settings and the lengths of what is lent.
-fn show_answer(settings: Settings, image: usize, font: usize, strip: usize, frame: usize) -> Answer
-    ensures { λ r. ⌜ toldOf r ≡ showTold settings image font strip frame ⌝ }
+// The answer, by the settings and the lengths of what is lent.
+fn length_answer(
+    settings: Settings,
+    image: usize,
+    font: usize,
+    strip: usize,
+    frame: usize,
+) -> Answer
+    ensures { λ r. ⌜ toldOf r ≡ firstOf (showLengths settings image font strip frame) (done (border (settings .look))) ⌝ }
 {
     let look = settings.look;
-    let text = !settings::graphics(look);
-    let total = 192 * settings::width(look);
     let mut answer = Answer::Done(settings::border(look) as usize);
-    answer = answer::check(answer, 63 < look.pins, Answer::PinsAbove);
-    answer = answer::check(answer, text & settings::external(look), Answer::External);
-    answer = answer::check(answer, settings::fast(settings), Answer::FastRate);
-    answer = answer::check(answer, !settings::image_fits(image), Answer::ImageLength);
-    answer = answer::check(
-        answer,
-        text & !(font == settings::font_size(look)),
-        Answer::FontLength,
-    );
-    answer = answer::check(answer, strip < total, Answer::ShortStrip);
-    answer::check(answer, frame < 49152, Answer::ShortFrame)
+    answer = settings::pins_above(answer, look);
+    answer = settings::external_text(answer, look);
+    answer = settings::fast_rate(answer, settings);
+    answer = settings::image_length(answer, image);
+    answer = settings::font_length(answer, look, font);
+    answer = settings::short_strip(answer, look, strip);
+    settings::short_frame(answer, frame)
+}
+
+// The work, where no length is refused: the bytes are fetched aside, and stored once drawing them is not refused.
+fn render(
+    settings: Settings,
+    image: &[u8],
+    font: &[u8],
+    strip: &mut [u8],
+    frame: &mut [u8],
+) -> Answer
+    requires { ⌜ firstOf (showLengths settings (length (now image)) (length (now font)) (length (now strip)) (length (now frame))) (done (border (settings .look))) .number ≡ 0 ⌝ }
+    ensures answer { λ r. ⌜ toldOf r ≡ showTold settings (now (image .entry)) (now (font .entry)) (now (strip .entry)) (now (frame .entry)) ⌝ }
+    ensures stored { λ r. ⌜ now (strip .exit) ≡ stripShown settings (now (image .entry)) (now (font .entry)) (now (strip .entry)) (now (frame .entry)) ⌝ }
+    ensures drawn { λ r. ⌜ now (frame .exit) ≡ frameShown settings (now (image .entry)) (now (font .entry)) (now (strip .entry)) (now (frame .entry)) ⌝ }
+{
+    let look = settings.look;
+    let mut bytes = [0u8; 6144];
+    strip::fetch(settings, image, &mut bytes);
+    let answer = frame::draw(look, font, &bytes, frame);
+    if answer::number(answer) != 0 {
+        return answer;
+    }
+    buffer::store(&bytes, settings::strip_length(look), strip);
+    answer
 }
 
 // Fetches the strip and draws it: done with the border, or refused with both buffers as they were.
@@ -35,14 +62,13 @@ pub fn show(
     strip: &mut [u8],
     frame: &mut [u8],
 ) -> Answer
-    ensures answer { λ r. ⌜ toldOf r ≡ showTold settings (length (now (image .entry))) (length (now (font .entry))) (length (now (strip .entry))) (length (now (frame .entry))) ⌝ }
+    ensures answer { λ r. ⌜ toldOf r ≡ showTold settings (now (image .entry)) (now (font .entry)) (now (strip .entry)) (now (frame .entry)) ⌝ }
     ensures bytes { λ r. ⌜ now (strip .exit) ≡ stripShown settings (now (image .entry)) (now (font .entry)) (now (strip .entry)) (now (frame .entry)) ⌝ }
     ensures pixels { λ r. ⌜ now (frame .exit) ≡ frameShown settings (now (image .entry)) (now (font .entry)) (now (strip .entry)) (now (frame .entry)) ⌝ }
 {
-    let answer = show_answer(settings, image.len(), font.len(), strip.len(), frame.len());
-    if let Answer::Done(_) = answer {
-        strip::fetch(settings, image, strip);
-        frame::draw(settings.look, font, strip, frame);
+    let answer = length_answer(settings, image.len(), font.len(), strip.len(), frame.len());
+    if answer::number(answer) != 0 {
+        return answer;
     }
-    answer
+    render(settings, image, font, strip, frame)
 }

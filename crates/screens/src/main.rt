@@ -146,17 +146,17 @@ fn show(
 // The refusals of both at once in their order.
 fn shows(image: &[u8], font: &[u8]) {
     show(0x1000, 0x40, 65535, 0, 0, 0, image, font);
-    show(0x1000, 0x40, 65536, 1152, 8192, 50000, image, font);
-    show(0x1000, 0x64, 65536, 1152, 8192, 50000, image, font);
+    show(0x5000, 0x40, 65536, 1152, 8192, 50000, image, font);
+    show(0x5000, 0x64, 65536, 1152, 8192, 50000, image, font);
     show(0x1000, 0x10, 65535, 0, 0, 0, image, font);
     show(0x1000, 0x00, 65535, 0, 0, 0, image, font);
     show(0x0000, 0x00, 65535, 0, 0, 0, image, font);
-    show(0x0000, 0x00, 65536, 1151, 0, 0, image, font);
-    show(0x0000, 0x00, 65536, 1152, 6143, 0, image, font);
-    show(0x0000, 0x20, 65536, 1151, 3071, 0, image, font);
-    show(0x0000, 0x00, 65536, 1152, 6144, 49151, image, font);
-    show(0x0000, 0x00, 65536, 1152, 6144, 49152, image, font);
-    show(0x0000, 0x20, 65536, 0, 8192, 50000, image, font);
+    show(0x4000, 0x00, 65536, 1151, 0, 0, image, font);
+    show(0x4000, 0x00, 65536, 1152, 6143, 0, image, font);
+    show(0x4000, 0x20, 65536, 1151, 3071, 0, image, font);
+    show(0x4000, 0x00, 65536, 1152, 6144, 49151, image, font);
+    show(0x4000, 0x00, 65536, 1152, 6144, 49152, image, font);
+    show(0x4000, 0x20, 65536, 0, 8192, 50000, image, font);
 }
 
 // Prints what reading back is lent.

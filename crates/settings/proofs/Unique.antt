@@ -2,48 +2,28 @@
 use mathlib.Core.Path.{refl, sym, _∙_}
 use base.Logic.{emp, id⊢}
 use Rattle.paper.specs.Fixes.{Operation, Fixes, whole, one-tells}
-use Rattle.settings.proofs.video_mode.{ended as video-mode-ended, clauses as video-mode-clauses}
-use Rattle.settings.proofs.video_mode.Key.{name as #video-mode}
-use Rattle.settings.proofs.video_mode.Reads as video-mode
-use Rattle.settings.proofs.offset.{ended as offset-ended, clauses as offset-clauses}
-use Rattle.settings.proofs.offset.Key.{name as #offset}
-use Rattle.settings.proofs.offset.Reads as offset
-use Rattle.settings.proofs.fast.{ended as fast-ended, clauses as fast-clauses}
-use Rattle.settings.proofs.fast.Key.{name as #fast}
-use Rattle.settings.proofs.fast.Reads as fast
-use Rattle.settings.proofs.graphics.{ended as graphics-ended, clauses as graphics-clauses}
-use Rattle.settings.proofs.graphics.Key.{name as #graphics}
-use Rattle.settings.proofs.graphics.Reads as graphics
-use Rattle.settings.proofs.external.{ended as external-ended, clauses as external-clauses}
-use Rattle.settings.proofs.external.Key.{name as #external}
-use Rattle.settings.proofs.external.Reads as external
-use Rattle.settings.proofs.gm.{ended as gm-ended, clauses as gm-clauses}
-use Rattle.settings.proofs.gm.Key.{name as #gm}
-use Rattle.settings.proofs.gm.Reads as gm
-use Rattle.settings.proofs.css.{ended as css-ended, clauses as css-clauses}
-use Rattle.settings.proofs.css.Key.{name as #css}
-use Rattle.settings.proofs.css.Reads as css
-use Rattle.settings.proofs.width.{ended as width-ended, clauses as width-clauses}
-use Rattle.settings.proofs.width.Key.{name as #width}
-use Rattle.settings.proofs.width.Reads as width
-use Rattle.settings.proofs.dots.{ended as dots-ended, clauses as dots-clauses}
-use Rattle.settings.proofs.dots.Key.{name as #dots}
-use Rattle.settings.proofs.dots.Reads as dots
-use Rattle.settings.proofs.border.{ended as border-ended, clauses as border-clauses}
-use Rattle.settings.proofs.border.Key.{name as #border}
-use Rattle.settings.proofs.border.Reads as border
-use Rattle.settings.proofs.font_size.{ended as font-size-ended, clauses as font-size-clauses}
-use Rattle.settings.proofs.font_size.Key.{name as #font-size}
-use Rattle.settings.proofs.font_size.Reads as font-size
-use Rattle.settings.proofs.mode_name.{ended as mode-name-ended, clauses as mode-name-clauses}
-use Rattle.settings.proofs.mode_name.Key.{name as #mode-name}
-use Rattle.settings.proofs.mode_name.Reads as mode-name
-use Rattle.settings.proofs.image_fits.{ended as image-fits-ended, clauses as image-fits-clauses}
-use Rattle.settings.proofs.image_fits.Key.{name as #image-fits}
-use Rattle.settings.proofs.image_fits.Reads as image-fits
+use Rattle.answer.proofs.Answers.{one-answer}
+use Rattle.settings.proofs.video_mode as video-mode
+use Rattle.settings.proofs.offset as offset
+use Rattle.settings.proofs.graphics as graphics
+use Rattle.settings.proofs.gm as gm
+use Rattle.settings.proofs.css as css
+use Rattle.settings.proofs.width as width
+use Rattle.settings.proofs.strip_length as strip-length
+use Rattle.settings.proofs.dots as dots
+use Rattle.settings.proofs.border as border
+use Rattle.settings.proofs.mode_name as mode-name
+use Rattle.settings.proofs.pins_above as pins-above
+use Rattle.settings.proofs.external_text as external-text
+use Rattle.settings.proofs.text_back as text-back
+use Rattle.settings.proofs.fast_rate as fast-rate
+use Rattle.settings.proofs.image_length as image-length
+use Rattle.settings.proofs.font_length as font-length
+use Rattle.settings.proofs.short_strip as short-strip
+use Rattle.settings.proofs.short_frame as short-frame
 
 abbrev pub video-mode-op : Operation
-video-mode-op = record { key = #video-mode; T = video-mode-ended; clauses = λ M. video-mode-clauses; Says = video-mode.Learnt; O = _; seen = λ κs. whole }
+video-mode-op = record { key = video-mode.Key.name; T = video-mode.ended; clauses = λ M. video-mode.clauses; Says = video-mode.Reads.Learnt; O = _; seen = λ κs. whole }
 
 pub video-mode-fixes : Fixes video-mode-op
 video-mode-fixes = record {
@@ -53,7 +33,7 @@ video-mode-fixes = record {
 }
 
 abbrev pub offset-op : Operation
-offset-op = record { key = #offset; T = offset-ended; clauses = λ M. offset-clauses; Says = offset.Learnt; O = _; seen = λ κs. whole }
+offset-op = record { key = offset.Key.name; T = offset.ended; clauses = λ M. offset.clauses; Says = offset.Reads.Learnt; O = _; seen = λ κs. whole }
 
 pub offset-fixes : Fixes offset-op
 offset-fixes = record {
@@ -62,18 +42,8 @@ offset-fixes = record {
   one-outcome = λ κs a z z′ ws ws′ p q. (p ∙ sym q, refl);
 }
 
-abbrev pub fast-op : Operation
-fast-op = record { key = #fast; T = fast-ended; clauses = λ M. fast-clauses; Says = fast.Learnt; O = _; seen = λ κs. whole }
-
-pub fast-fixes : Fixes fast-op
-fast-fixes = record {
-  takes-all = λ w κs a g. id⊢ (w .𝓤) (emp (w .𝓤));
-  tells = λ w κs a g z e. one-tells (w .𝓤) _;
-  one-outcome = λ κs a z z′ ws ws′ p q. (p ∙ sym q, refl);
-}
-
 abbrev pub graphics-op : Operation
-graphics-op = record { key = #graphics; T = graphics-ended; clauses = λ M. graphics-clauses; Says = graphics.Learnt; O = _; seen = λ κs. whole }
+graphics-op = record { key = graphics.Key.name; T = graphics.ended; clauses = λ M. graphics.clauses; Says = graphics.Reads.Learnt; O = _; seen = λ κs. whole }
 
 pub graphics-fixes : Fixes graphics-op
 graphics-fixes = record {
@@ -82,18 +52,8 @@ graphics-fixes = record {
   one-outcome = λ κs a z z′ ws ws′ p q. (p ∙ sym q, refl);
 }
 
-abbrev pub external-op : Operation
-external-op = record { key = #external; T = external-ended; clauses = λ M. external-clauses; Says = external.Learnt; O = _; seen = λ κs. whole }
-
-pub external-fixes : Fixes external-op
-external-fixes = record {
-  takes-all = λ w κs a g. id⊢ (w .𝓤) (emp (w .𝓤));
-  tells = λ w κs a g z e. one-tells (w .𝓤) _;
-  one-outcome = λ κs a z z′ ws ws′ p q. (p ∙ sym q, refl);
-}
-
 abbrev pub gm-op : Operation
-gm-op = record { key = #gm; T = gm-ended; clauses = λ M. gm-clauses; Says = gm.Learnt; O = _; seen = λ κs. whole }
+gm-op = record { key = gm.Key.name; T = gm.ended; clauses = λ M. gm.clauses; Says = gm.Reads.Learnt; O = _; seen = λ κs. whole }
 
 pub gm-fixes : Fixes gm-op
 gm-fixes = record {
@@ -103,7 +63,7 @@ gm-fixes = record {
 }
 
 abbrev pub css-op : Operation
-css-op = record { key = #css; T = css-ended; clauses = λ M. css-clauses; Says = css.Learnt; O = _; seen = λ κs. whole }
+css-op = record { key = css.Key.name; T = css.ended; clauses = λ M. css.clauses; Says = css.Reads.Learnt; O = _; seen = λ κs. whole }
 
 pub css-fixes : Fixes css-op
 css-fixes = record {
@@ -113,7 +73,7 @@ css-fixes = record {
 }
 
 abbrev pub width-op : Operation
-width-op = record { key = #width; T = width-ended; clauses = λ M. width-clauses; Says = width.Learnt; O = _; seen = λ κs. whole }
+width-op = record { key = width.Key.name; T = width.ended; clauses = λ M. width.clauses; Says = width.Reads.Learnt; O = _; seen = λ κs. whole }
 
 pub width-fixes : Fixes width-op
 width-fixes = record {
@@ -122,8 +82,18 @@ width-fixes = record {
   one-outcome = λ κs a z z′ ws ws′ p q. (p ∙ sym q, refl);
 }
 
+abbrev pub strip-length-op : Operation
+strip-length-op = record { key = strip-length.Key.name; T = strip-length.ended; clauses = λ M. strip-length.clauses; Says = strip-length.Reads.Learnt; O = _; seen = λ κs. whole }
+
+pub strip-length-fixes : Fixes strip-length-op
+strip-length-fixes = record {
+  takes-all = λ w κs a g. id⊢ (w .𝓤) (emp (w .𝓤));
+  tells = λ w κs a g z e. one-tells (w .𝓤) _;
+  one-outcome = λ κs a z z′ ws ws′ p q. (p ∙ sym q, refl);
+}
+
 abbrev pub dots-op : Operation
-dots-op = record { key = #dots; T = dots-ended; clauses = λ M. dots-clauses; Says = dots.Learnt; O = _; seen = λ κs. whole }
+dots-op = record { key = dots.Key.name; T = dots.ended; clauses = λ M. dots.clauses; Says = dots.Reads.Learnt; O = _; seen = λ κs. whole }
 
 pub dots-fixes : Fixes dots-op
 dots-fixes = record {
@@ -133,7 +103,7 @@ dots-fixes = record {
 }
 
 abbrev pub border-op : Operation
-border-op = record { key = #border; T = border-ended; clauses = λ M. border-clauses; Says = border.Learnt; O = _; seen = λ κs. whole }
+border-op = record { key = border.Key.name; T = border.ended; clauses = λ M. border.clauses; Says = border.Reads.Learnt; O = _; seen = λ κs. whole }
 
 pub border-fixes : Fixes border-op
 border-fixes = record {
@@ -142,18 +112,8 @@ border-fixes = record {
   one-outcome = λ κs a z z′ ws ws′ p q. (p ∙ sym q, refl);
 }
 
-abbrev pub font-size-op : Operation
-font-size-op = record { key = #font-size; T = font-size-ended; clauses = λ M. font-size-clauses; Says = font-size.Learnt; O = _; seen = λ κs. whole }
-
-pub font-size-fixes : Fixes font-size-op
-font-size-fixes = record {
-  takes-all = λ w κs a g. id⊢ (w .𝓤) (emp (w .𝓤));
-  tells = λ w κs a g z e. one-tells (w .𝓤) _;
-  one-outcome = λ κs a z z′ ws ws′ p q. (p ∙ sym q, refl);
-}
-
 abbrev pub mode-name-op : Operation
-mode-name-op = record { key = #mode-name; T = mode-name-ended; clauses = λ M. mode-name-clauses; Says = mode-name.Learnt; O = _; seen = λ κs. whole }
+mode-name-op = record { key = mode-name.Key.name; T = mode-name.ended; clauses = λ M. mode-name.clauses; Says = mode-name.Reads.Learnt; O = _; seen = λ κs. whole }
 
 pub mode-name-fixes : Fixes mode-name-op
 mode-name-fixes = record {
@@ -162,12 +122,82 @@ mode-name-fixes = record {
   one-outcome = λ κs a z z′ ws ws′ p q. (p ∙ sym q, refl);
 }
 
-abbrev pub image-fits-op : Operation
-image-fits-op = record { key = #image-fits; T = image-fits-ended; clauses = λ M. image-fits-clauses; Says = image-fits.Learnt; O = _; seen = λ κs. whole }
+abbrev pub pins-above-op : Operation
+pins-above-op = record { key = pins-above.Key.name; T = pins-above.ended; clauses = λ M. pins-above.clauses; Says = pins-above.Reads.Learnt; O = _; seen = λ κs. whole }
 
-pub image-fits-fixes : Fixes image-fits-op
-image-fits-fixes = record {
+pub pins-above-fixes : Fixes pins-above-op
+pins-above-fixes = record {
   takes-all = λ w κs a g. id⊢ (w .𝓤) (emp (w .𝓤));
   tells = λ w κs a g z e. one-tells (w .𝓤) _;
-  one-outcome = λ κs a z z′ ws ws′ p q. (p ∙ sym q, refl);
+  one-outcome = λ κs a z z′ ws ws′ p q. (one-answer p q, refl);
+}
+
+abbrev pub external-text-op : Operation
+external-text-op = record { key = external-text.Key.name; T = external-text.ended; clauses = λ M. external-text.clauses; Says = external-text.Reads.Learnt; O = _; seen = λ κs. whole }
+
+pub external-text-fixes : Fixes external-text-op
+external-text-fixes = record {
+  takes-all = λ w κs a g. id⊢ (w .𝓤) (emp (w .𝓤));
+  tells = λ w κs a g z e. one-tells (w .𝓤) _;
+  one-outcome = λ κs a z z′ ws ws′ p q. (one-answer p q, refl);
+}
+
+abbrev pub text-back-op : Operation
+text-back-op = record { key = text-back.Key.name; T = text-back.ended; clauses = λ M. text-back.clauses; Says = text-back.Reads.Learnt; O = _; seen = λ κs. whole }
+
+pub text-back-fixes : Fixes text-back-op
+text-back-fixes = record {
+  takes-all = λ w κs a g. id⊢ (w .𝓤) (emp (w .𝓤));
+  tells = λ w κs a g z e. one-tells (w .𝓤) _;
+  one-outcome = λ κs a z z′ ws ws′ p q. (one-answer p q, refl);
+}
+
+abbrev pub fast-rate-op : Operation
+fast-rate-op = record { key = fast-rate.Key.name; T = fast-rate.ended; clauses = λ M. fast-rate.clauses; Says = fast-rate.Reads.Learnt; O = _; seen = λ κs. whole }
+
+pub fast-rate-fixes : Fixes fast-rate-op
+fast-rate-fixes = record {
+  takes-all = λ w κs a g. id⊢ (w .𝓤) (emp (w .𝓤));
+  tells = λ w κs a g z e. one-tells (w .𝓤) _;
+  one-outcome = λ κs a z z′ ws ws′ p q. (one-answer p q, refl);
+}
+
+abbrev pub image-length-op : Operation
+image-length-op = record { key = image-length.Key.name; T = image-length.ended; clauses = λ M. image-length.clauses; Says = image-length.Reads.Learnt; O = _; seen = λ κs. whole }
+
+pub image-length-fixes : Fixes image-length-op
+image-length-fixes = record {
+  takes-all = λ w κs a g. id⊢ (w .𝓤) (emp (w .𝓤));
+  tells = λ w κs a g z e. one-tells (w .𝓤) _;
+  one-outcome = λ κs a z z′ ws ws′ p q. (one-answer p q, refl);
+}
+
+abbrev pub font-length-op : Operation
+font-length-op = record { key = font-length.Key.name; T = font-length.ended; clauses = λ M. font-length.clauses; Says = font-length.Reads.Learnt; O = _; seen = λ κs. whole }
+
+pub font-length-fixes : Fixes font-length-op
+font-length-fixes = record {
+  takes-all = λ w κs a g. id⊢ (w .𝓤) (emp (w .𝓤));
+  tells = λ w κs a g z e. one-tells (w .𝓤) _;
+  one-outcome = λ κs a z z′ ws ws′ p q. (one-answer p q, refl);
+}
+
+abbrev pub short-strip-op : Operation
+short-strip-op = record { key = short-strip.Key.name; T = short-strip.ended; clauses = λ M. short-strip.clauses; Says = short-strip.Reads.Learnt; O = _; seen = λ κs. whole }
+
+pub short-strip-fixes : Fixes short-strip-op
+short-strip-fixes = record {
+  takes-all = λ w κs a g. id⊢ (w .𝓤) (emp (w .𝓤));
+  tells = λ w κs a g z e. one-tells (w .𝓤) _;
+  one-outcome = λ κs a z z′ ws ws′ p q. (one-answer p q, refl);
+}
+
+abbrev pub short-frame-op : Operation
+short-frame-op = record { key = short-frame.Key.name; T = short-frame.ended; clauses = λ M. short-frame.clauses; Says = short-frame.Reads.Learnt; O = _; seen = λ κs. whole }
+
+pub short-frame-fixes : Fixes short-frame-op
+short-frame-fixes = record {
+  takes-all = λ w κs a g. id⊢ (w .𝓤) (emp (w .𝓤));
+  tells = λ w κs a g z e. one-tells (w .𝓤) _;
+  one-outcome = λ κs a z z′ ws ws′ p q. (one-answer p q, refl);
 }

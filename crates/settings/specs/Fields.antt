@@ -5,6 +5,13 @@ use lib.Dec.{eqb}
 use Rattle.settings.specs.declared.Look.{Look}
 use Rattle.settings.specs.declared.Settings.{Settings}
 
+-- a look by its pin byte, and settings by their word and pin byte: where definitions and proofs make one, they make it here
+abbrev pub lookOf : ℕ → Look
+lookOf p = record { pins = p }
+
+abbrev pub settingsOf : ℕ → ℕ → Settings
+settingsOf w p = record { word = w; look = lookOf p }
+
 -- n bits of w, from bit `at` on
 abbrev pub bits : ℕ → ℕ → ℕ → ℕ
 bits w at n = w / 2 ^ at % 2 ^ n

@@ -1,8 +1,12 @@
 // What is read off a control word and a pin byte: the SAM's fields, the video chip's pins, and the mode they name.
+use answer::Answer;
+use answer::Unfit;
 ghost use mathlib.Core.Path.{_≡_};
 ghost use Prim.Native.Nat.{_<_};
+ghost use Rattle.paper.specs.Order.{after};
+ghost use Rattle.answer.specs.Told.{toldOf};
 ghost use Rattle.settings.specs.Fields.{bits, videoMode, offset, fast, graphics, external, gm, css};
-ghost use Rattle.settings.specs.Refusals.{imageFits};
+ghost use Rattle.settings.specs.Refusals.{imageFits, stripLength, pinsAbove, externalText, textBack, fastRate, imageLength, fontLength, shortStrip, shortFrame};
 ghost use Rattle.settings.specs.Modes.{width, dots, border, fontSize, modeName, named};
 
 // The look of a frame: the pin byte, fixed for a frame.
@@ -21,6 +25,9 @@ pub struct Name {
     pub bytes: [u8; 3],
     pub len: usize,
 }
+
+// The length of a frame: 192 lines of 256 pixels.
+pub const FRAME_LENGTH: usize = 49152;
 
 const WIDTHS: [usize; 8] = [16, 16, 32, 16, 32, 16, 32, 32];
 
@@ -54,7 +61,7 @@ pub fn offset(settings: Settings) -> u16
 }
 
 // R1: the fast rate, at which there is no display.
-pub fn fast(settings: Settings) -> bool
+fn fast(settings: Settings) -> bool
     ensures { λ r. ⌜ r ≡ fast settings ⌝ }
 {
     field(settings.word, 12, 1) == 1
@@ -68,7 +75,7 @@ pub fn graphics(look: Look) -> bool
 }
 
 // INT/EXT.
-pub fn external(look: Look) -> bool
+fn external(look: Look) -> bool
     ensures { λ r. ⌜ r ≡ external look ⌝ }
 {
     field(look.pins as u16, 4, 1) == 1
@@ -96,6 +103,13 @@ pub fn width(look: Look) -> usize
     if graphics(look) { WIDTHS[g] } else { 32 }
 }
 
+// 192 × W, the length of a strip.
+pub fn strip_length(look: Look) -> usize
+    ensures { λ r. ⌜ r ≡ stripLength look ⌝ }
+{
+    192 * width(look)
+}
+
 // The dots per element; a text byte's dots stand for themselves.
 pub fn dots(look: Look) -> usize
     ensures { λ r. ⌜ r ≡ dots look ⌝ }
@@ -121,13 +135,6 @@ pub fn border(look: Look) -> u8
     7 * css(look)
 }
 
-// How long the font is that text asks for.
-pub fn font_size(look: Look) -> usize
-    ensures { λ r. ⌜ r ≡ fontSize look ⌝ }
-{
-    1152
-}
-
 // The mode's name, as a report gives it.
 pub fn mode_name(look: Look) -> Name
     ensures { λ r. ⌜ r ≡ named (modeName look) ⌝ }
@@ -145,12 +152,97 @@ pub fn mode_name(look: Look) -> Name
     }
 }
 
+// == The checks of document 01's table by settings and lengths, each coded here alone: the answer after one more of them.
+
+// 1: pin byte above 63.
+pub fn pins_above(answer: Answer, look: Look) -> Answer
+    ensures { λ r. ⌜ toldOf r ≡ after (pinsAbove look) (toldOf answer) ⌝ }
+{
+    answer::check(answer, 63 < look.pins, Answer::Unfit(Unfit::PinsAbove))
+}
+
+// 2: A/G = 0 and INT/EXT = 1.
+pub fn external_text(answer: Answer, look: Look) -> Answer
+    ensures { λ r. ⌜ toldOf r ≡ after (externalText look) (toldOf answer) ⌝ }
+{
+    answer::check(
+        answer,
+        !graphics(look) & external(look),
+        Answer::Unfit(Unfit::External),
+    )
+}
+
+// 3: reading back with A/G = 0.
+pub fn text_back(answer: Answer, look: Look) -> Answer
+    ensures { λ r. ⌜ toldOf r ≡ after (textBack look) (toldOf answer) ⌝ }
+{
+    answer::check(answer, !graphics(look), Answer::Unfit(Unfit::TextBack))
+}
+
+// 4: R1 = 1.
+pub fn fast_rate(answer: Answer, settings: Settings) -> Answer
+    ensures { λ r. ⌜ toldOf r ≡ after (fastRate settings) (toldOf answer) ⌝ }
+{
+    answer::check(answer, fast(settings), Answer::Unfit(Unfit::FastRate))
+}
+
 // Whether an image may have this length.
-pub fn image_fits(length: usize) -> bool
+fn image_fits(length: usize) -> bool
     ensures { λ r. ⌜ r ≡ imageFits length ⌝ }
 {
     match length {
         4096 | 8192 | 16384 | 32768 | 65536 => true,
         _ => false,
     }
+}
+
+// 5: image length not 4,096, 8,192, 16,384, 32,768 or 65,536.
+pub fn image_length(answer: Answer, length: usize) -> Answer
+    ensures { λ r. ⌜ toldOf r ≡ after (imageLength length) (toldOf answer) ⌝ }
+{
+    answer::check(
+        answer,
+        !image_fits(length),
+        Answer::Unfit(Unfit::ImageLength),
+    )
+}
+
+// How long the font is that text asks for.
+fn font_size(look: Look) -> usize
+    ensures { λ r. ⌜ r ≡ fontSize look ⌝ }
+{
+    1152
+}
+
+// 6: A/G = 0 and font length not the one asked for.
+pub fn font_length(answer: Answer, look: Look, length: usize) -> Answer
+    ensures { λ r. ⌜ toldOf r ≡ after (fontLength look length) (toldOf answer) ⌝ }
+{
+    answer::check(
+        answer,
+        !graphics(look) & !(length == font_size(look)),
+        Answer::Unfit(Unfit::FontLength),
+    )
+}
+
+// 7: strip shorter than 192 × W.
+pub fn short_strip(answer: Answer, look: Look, length: usize) -> Answer
+    ensures { λ r. ⌜ toldOf r ≡ after (shortStrip look length) (toldOf answer) ⌝ }
+{
+    answer::check(
+        answer,
+        length < strip_length(look),
+        Answer::Unfit(Unfit::ShortStrip),
+    )
+}
+
+// 8: frame shorter than 49,152.
+pub fn short_frame(answer: Answer, length: usize) -> Answer
+    ensures { λ r. ⌜ toldOf r ≡ after (shortFrame length) (toldOf answer) ⌝ }
+{
+    answer::check(
+        answer,
+        length < FRAME_LENGTH,
+        Answer::Unfit(Unfit::ShortFrame),
+    )
 }

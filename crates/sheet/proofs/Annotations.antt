@@ -78,8 +78,8 @@ module _ (s : Lent) where
   -- annotation n is not empty exactly for n below the count
   pub line-some : (κs κr : Lfts 1) (z : Sheet) → Reads κs s z → (n : ℕ) (r : Lent) → Line κr s n r → (0 < length (now r)) ↔ (n < z .annotations)
   line-some κs κr z p n r q = (
-    λ h. ⊎-elim (λ (k : length (fieldsIn (now s) .annotations) ≤ n). absurd (omega (arith, h, ap length (line-holds κr n r q), none-from (now s) n k .1))) (λ (k : n < length (fieldsIn (now s) .annotations)). omega (arith, k, p .1 .1 .1 .1)) (le-or-lt (length (fieldsIn (now s) .annotations)) n),
-    λ h. let k : n < length (fieldsIn (now s) .annotations) = omega (arith, h, p .1 .1 .1 .1) in
+    λ h. ⊎-elim (λ (k : length (fieldsIn (now s) .annotations) ≤ n). absurd (omega (arith, h, ap length (line-holds κr n r q), none-from (now s) n k .1))) (λ (k : n < length (fieldsIn (now s) .annotations)). omega (arith, k, p .annotations)) (le-or-lt (length (fieldsIn (now s) .annotations)) n),
+    λ h. let k : n < length (fieldsIn (now s) .annotations) = omega (arith, h, p .annotations) in
         let v = line-in (now s) n (some-accepted (now s) (omega arith)) k in
         omega (arith, ap length (line-holds κr n r q), ap length (v .named), length-append (v .value .key) (eq ++ v .value .value), length-append eq (v .value .value)),
   )
@@ -97,7 +97,7 @@ module _ (s : Lent) where
   pub lines-join : (κs κt : Lfts 1) (κr : ℕ → Lfts 1) (z : Sheet) → Reads κs s z → (r : ℕ → Lent) → ((n : ℕ) → Line (κr n) s n (r n)) → (t : Lent) → Tail κt s t → joined (z .annotations) (λ n. now (r n) ++ nl) ≡ now t
   lines-join κs κt κr z p r q t w =
       let l = fieldsIn (now s) .annotations in
-      ap (λ (k : ℕ). joined k (λ n. now (r n) ++ nl)) (p .1 .1 .1 .1)
+      ap (λ (k : ℕ). joined k (λ n. now (r n) ++ nl)) (p .annotations)
       ∙ joined-by (length l) (λ n. now (r n) ++ nl) (λ n. lineAt l n ++ nl) (λ n _. ap (λ (x : List ℕ). x ++ nl) (line-holds (κr n) n (r n) (q n)))
       ∙ joined-lines l ∙ sym (tail-holds κt t w)
 
@@ -107,7 +107,7 @@ module _ (s : Lent) where
     where
       go : (o : Reading Fields) → readSheet (now s) ≡ o → accepted (now s) ≡ true
       go (got f n) e = ap isGot e
-      go (stuck n) e = absurd (omega (arith, h, ap (λ (x : Told). x .number) (p .0 ∙ ap toldRead e)))
+      go (stuck n) e = absurd (omega (arith, h, ap (λ (x : Told). x .number) (p .told ∙ ap toldRead e)))
 
   -- accepted: the bytes are those of valid fields, and the tail is their end
   pub accepted-sheet : (κs : Lfts 1) (z : Sheet) → Reads κs s z → toldOf (z .answer) .number ≡ 0 → ValidSheet (fieldsIn (now s)) × (now s ≡ render (fieldsIn (now s)))
@@ -130,8 +130,8 @@ module _ (s : Lent) where
   refused-sheet κs z p h = go (readSheet (now s)) refl
     where
       go : (o : Reading Fields) → readSheet (now s) ≡ o → (toldOf (z .answer) .number ≡ 11) × Longest sheets (now s) (toldOf (z .answer) .place) × ((f : Fields) → ValidSheet f → now s ≡ render f → ⊥)
-      go (got f n) e = absurd (h (ap (λ (x : Told). x .number) (p .0 ∙ ap toldRead e)))
+      go (got f n) e = absurd (h (ap (λ (x : Told). x .number) (p .told ∙ ap toldRead e)))
       go (stuck n) e =
           let a = refused-at (now s) n e in
-          let t = p .0 ∙ ap toldRead e in
+          let t = p .told ∙ ap toldRead e in
           (ap (λ (x : Told). x .number) t, subst (Longest sheets (now s)) (sym (ap (λ (x : Told). x .place) t)) (a .0), a .1)

@@ -1,12 +1,12 @@
 // The sheet: what it holds, and its deed and its annotation lines as parts of the lent bytes.
 use answer::Answer;
+use answer::Spot;
 use outline::DEED_KEY;
-ghost use mathlib.Core.Path.{_≡_};
 ghost use lib.ListN.{length};
 ghost use Rattle.paper.specs.Part.{PartOf};
-ghost use Rattle.answer.specs.Told.{toldOf};
 ghost use Rattle.grammar.specs.Sheet.{lines};
-ghost use Rattle.grammar.specs.Given.{toldIn, fieldsIn, padded, deedFrom, tailFrom, annotationFrom, lineAt};
+ghost use Rattle.grammar.specs.Given.{fieldsIn, deedFrom, tailFrom, annotationFrom, lineAt};
+ghost use Rattle.sheet.specs.Held.{HeldIn};
 
 // What a sheet holds: its pins, its write addresses with 0 in the places that are not used, and its number of annotations.
 // A refused sheet's answer has the place; its fields are 0.
@@ -20,11 +20,7 @@ pub struct Sheet {
 
 // Reads a sheet.
 pub fn read(sheet: &[u8]) -> Sheet
-    ensures { λ r. ⌜ toldOf (r .answer) ≡ toldIn (now (sheet .entry)) ⌝ }
-    ensures { λ r. ⌜ r .pins ≡ fieldsIn (now (sheet .entry)) .pins ⌝ }
-    ensures { λ r. ⌜ r .writes ≡ padded 64 (fieldsIn (now (sheet .entry)) .writes) ⌝ }
-    ensures { λ r. ⌜ r .«write_count» ≡ length (fieldsIn (now (sheet .entry)) .writes) ⌝ }
-    ensures { λ r. ⌜ r .annotations ≡ length (fieldsIn (now (sheet .entry)) .annotations) ⌝ }
+    ensures { λ r. ⌜ HeldIn (now (sheet .entry)) r ⌝ }
 {
     let found = outline::survey(sheet);
     let writes = found.writes;
@@ -38,7 +34,7 @@ pub fn read(sheet: &[u8]) -> Sheet
         };
     }
     Sheet {
-        answer: Answer::BrokenSheet(found.place),
+        answer: Answer::At(Spot::BrokenSheet, found.place),
         pins: 0,
         writes: [0u16; 64],
         write_count: 0,

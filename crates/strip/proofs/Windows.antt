@@ -28,23 +28,20 @@ fetch-fetched s size k h =
     }
 
 -- byte k of the strip after an accepted call
-pub strip-byte : (s : Settings) (image strip : List ℕ) → fetchTold s (length image) (length strip) .number ≡ 0 → (k : ℕ) → k < stripLength (s .look) → getD (stripAfter s image strip) k 0 ≡ fetchedByte s image k
+pub strip-byte : (s : Settings) (image strip : List ℕ) → fetchTold s image strip .number ≡ 0 → (k : ℕ) → k < stripLength (s .look) → getD (stripAfter s image strip) k 0 ≡ fetchedByte s image k
 strip-byte s image strip e k h =
-    rw (strip-done s image strip e) (written-fills (fetchedByte s image) (stripLength (s .look)) strip (accepted s (length image) (length strip) e .1) .is k (omega arith) h)
+    rw (strip-done s image strip e) (written-fills (fetchedByte s image) (stripLength (s .look)) strip (accepted s image strip e .1) .is k (omega arith) h)
 
 module _ (s : Settings) (image other strip : List ℕ) (long : length image ≡ length other) where
-  -- images that agree at the fetched places leave the same strip
-  pub same-strip : ((p : ℕ) → Fetched s (length image) p → getD image p 0 ≡ getD other p 0) → stripAfter s image strip ≡ stripAfter s other strip
-  unfolding stripAfter
-  same-strip agree =
-      let e : written (fetchedByte s image) (stripLength (s .look)) strip ≡ written (fetchedByte s other) (stripLength (s .look)) strip =
-      written-by (stripLength (s .look)) strip (λ k h. agree (fetchPlace s (length image) k) (fetch-fetched s (length image) k h) ∙ ap (λ (n : ℕ). getD other (fetchPlace s n k) 0) long) in
-      rw (e, long)
+  -- images that agree at the fetched places are told alike, and leave the same strip
+  module _ (agree : (p : ℕ) → Fetched s (length image) p → getD image p 0 ≡ getD other p 0) where
+    pub same-fetched : (k : ℕ) → k < stripLength (s .look) → fetchedByte s image k ≡ fetchedByte s other k
+    same-fetched k h = agree (fetchPlace s (length image) k) (fetch-fetched s (length image) k h) ∙ ap (λ (n : ℕ). getD other (fetchPlace s n k) 0) long
 
-  -- where both calls are done, strip byte k differs exactly where the images differ at the place of fetch k
-  pub same-byte : fetchTold s (length image) (length strip) .number ≡ 0 → (k : ℕ) → k < stripLength (s .look)
-      → (getD (stripAfter s image strip) k 0 ≡ getD (stripAfter s other strip) k 0) ↔ (getD image (fetchPlace s (length image) k) 0 ≡ getD other (fetchPlace s (length image) k) 0)
-  same-byte e k h =
-      let p = strip-byte s image strip e k h in
-      let q = strip-byte s other strip (rw (← long) e) k h ∙ ap (λ (n : ℕ). getD other (fetchPlace s n k) 0) (sym long) in
-      (λ x. sym p ∙ x ∙ q, λ y. p ∙ y ∙ sym q)
+    pub same-told : fetchTold s image strip ≡ fetchTold s other strip
+    unfolding fetchTold
+    same-told = rw long
+
+    pub same-strip : stripAfter s image strip ≡ stripAfter s other strip
+    unfolding stripAfter
+    same-strip = rw (same-told, written-by (stripLength (s .look)) strip same-fetched)

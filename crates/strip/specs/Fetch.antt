@@ -1,13 +1,11 @@
 -- Fetching: what it answers, and every byte of the strip afterwards (document 01, "Which bytes are fetched").
 use Prim.Native.Nat.{ℕ, _/_, _%_, _<_}
 use mathlib.Core.Path.{_≡_}
-use mathlib.Core.List.{List, [], _∷_}
-use lib.Dec.{eqb}
+use mathlib.Core.List.{List, [], _∷_, _++_}
 use lib.ListN.{length, getD}
-use Rattle.paper.specs.Choose.{choose}
 use Rattle.paper.specs.Told.{Told, done}
 use Rattle.paper.specs.Order.{Check, firstOf}
-use Rattle.paper.specs.Written.{written}
+use Rattle.paper.specs.Written.{written, leaves}
 use Rattle.settings.specs.declared.Settings.{Settings}
 use Rattle.settings.specs.Modes.{width}
 use Rattle.settings.specs.Refusals.{pinsAbove, externalText, fastRate, imageLength, shortStrip, stripLength}
@@ -33,17 +31,24 @@ fetchedByte s image k = getD image (fetchPlace s (length image) k) 0
 abbrev pub byteOn : Settings → List ℕ → Counter → ℕ → ℕ
 byteOn s image c j = getD image (imagePlace s (length image) (bytesOn s j c .address)) 0
 
--- fetching checks 1, 2, 4, 5, 7
-abbrev pub fetchOrder : Settings → ℕ → ℕ → List Check
-fetchOrder s image strip = pinsAbove (s .look) ∷ externalText (s .look) ∷ fastRate s ∷ imageLength image ∷ shortStrip (s .look) strip ∷ []
+-- fetching checks 1, 2, 4, 5, 7, by the settings and the lengths of image and strip
+abbrev pub fetchLengths : Settings → ℕ → ℕ → List Check
+fetchLengths s image strip = pinsAbove (s .look) ∷ externalText (s .look) ∷ fastRate s ∷ imageLength image ∷ shortStrip (s .look) strip ∷ []
 
-unfoldable pub fetchTold : Settings → ℕ → ℕ → Told
+-- then by the fetched places of an image of this length; none is refused: the list waits for CR 7
+abbrev pub fetchPlaces : Settings → ℕ → List Check
+fetchPlaces s size = []
+
+-- the whole order, over what is lent, and what is told
+abbrev pub fetchOrder : Settings → List ℕ → List ℕ → List Check
+fetchOrder s image strip = fetchLengths s (length image) (length strip) ++ fetchPlaces s (length image)
+
+unfoldable pub fetchTold : Settings → List ℕ → List ℕ → Told
 fetchTold s image strip = firstOf (fetchOrder s image strip) (done (stripLength (s .look)))
 
--- done, the first 192 × W bytes are those fetched; a refusal stores nothing
+-- done, the first 192 × W bytes are those fetched
 unfoldable pub stripAfter : Settings → List ℕ → List ℕ → List ℕ
-stripAfter s image strip =
-    choose (eqb (fetchTold s (length image) (length strip) .number) 0) (written (fetchedByte s image) (stripLength (s .look)) strip) strip
+stripAfter s image strip = leaves (fetchTold s image strip) (written (fetchedByte s image) (stripLength (s .look)) strip) strip
 
 -- a place of the image is fetched: some line and byte of the frame has it
 pub record Fetched (s : Settings) (size place : ℕ) : Type 0 where

@@ -6,13 +6,15 @@ ghost use mathlib.Core.Path.{_≡_};
 ghost use mathlib.Core.Bool.{true};
 ghost use Prim.Native.Nat.{_+_, _-_, _*_, _<_, _≤_, _/_};
 ghost use lib.ListN.{length, getD, replicate};
+ghost use Rattle.paper.specs.Told.{done};
+ghost use Rattle.paper.specs.Order.{firstOf};
 ghost use Rattle.paper.specs.Written.{Filled};
 ghost use Rattle.answer.specs.Told.{toldOf};
 ghost use Rattle.settings.specs.Modes.{width};
-ghost use Rattle.settings.specs.Refusals.{imageFits};
+ghost use Rattle.settings.specs.Refusals.{imageFits, stripLength};
 ghost use Rattle.counter.specs.Counter.{bytesOn};
 ghost use Rattle.counter.proofs.Runs.{Aligned};
-ghost use Rattle.strip.specs.Fetch.{imagePlace, byteOn, fetchedByte, fetchTold, stripAfter};
+ghost use Rattle.strip.specs.Fetch.{imagePlace, byteOn, fetchedByte, fetchLengths, fetchTold, stripAfter};
 
 // The place in an image of an address.
 fn place(settings: Settings, size: usize, address: u16) -> usize
@@ -98,29 +100,28 @@ fn lines(settings: Settings, image: &[u8], strip: &mut [u8])
     }
 }
 
-// What fetching answers, from the settings and the lengths of what is lent.
-fn fetch_answer(settings: Settings, image: usize, strip: usize) -> Answer
-    ensures { λ r. ⌜ toldOf r ≡ fetchTold settings image strip ⌝ }
+// The answer, by the settings and the lengths of what is lent.
+fn length_answer(settings: Settings, image: usize, strip: usize) -> Answer
+    ensures { λ r. ⌜ toldOf r ≡ firstOf (fetchLengths settings image strip) (done (stripLength (settings .look))) ⌝ }
 {
     let look = settings.look;
-    let text = !settings::graphics(look);
-    let total = 192 * settings::width(look);
-    let mut answer = Answer::Done(total);
-    answer = answer::check(answer, 63 < look.pins, Answer::PinsAbove);
-    answer = answer::check(answer, text & settings::external(look), Answer::External);
-    answer = answer::check(answer, settings::fast(settings), Answer::FastRate);
-    answer = answer::check(answer, !settings::image_fits(image), Answer::ImageLength);
-    answer::check(answer, strip < total, Answer::ShortStrip)
+    let mut answer = Answer::Done(settings::strip_length(look));
+    answer = settings::pins_above(answer, look);
+    answer = settings::external_text(answer, look);
+    answer = settings::fast_rate(answer, settings);
+    answer = settings::image_length(answer, image);
+    settings::short_strip(answer, look, strip)
 }
 
 // Fetches the strip of a frame: 192 lines of W bytes, in fetched order, repeats included.
 pub fn fetch(settings: Settings, image: &[u8], strip: &mut [u8]) -> Answer
-    ensures answer { λ r. ⌜ toldOf r ≡ fetchTold settings (length (now (image .entry))) (length (now (strip .entry))) ⌝ }
+    ensures answer { λ r. ⌜ toldOf r ≡ fetchTold settings (now (image .entry)) (now (strip .entry)) ⌝ }
     ensures bytes { λ r. ⌜ now (strip .exit) ≡ stripAfter settings (now (image .entry)) (now (strip .entry)) ⌝ }
 {
-    let answer = fetch_answer(settings, image.len(), strip.len());
-    if let Answer::Done(_) = answer {
-        lines(settings, image, strip);
+    let answer = length_answer(settings, image.len(), strip.len());
+    if answer::number(answer) != 0 {
+        return answer;
     }
+    lines(settings, image, strip);
     answer
 }

@@ -11,5 +11,6 @@ pub mod Exclusions
 pub mod Hexes
 pub mod Back
 pub mod Scans
+pub mod Rests
 pub mod Passed
 pub mod Lengths

@@ -6,12 +6,12 @@ use mathlib.Core.List.{List, [], _∷_, _++_, append-assoc}
 use lib.ListN.{length, drop, length-append, drop-of-length-le}
 use lib.Seq.{drop-cons, drop-drop}
 use Rattle.text.specs.Code.{Reading, got, stuck}
-use Rattle.text.specs.Combine.{mapped, shift, andThen, pushed, readTimes, readUpTo}
+use Rattle.text.specs.Combine.{mapped, andThen, pushed, readTimes, readUpTo}
+use Rattle.text.proofs.Rests.{passed, shifted}
 
 -- the values vs and p bytes are passed before what is read
 abbrev pub ahead : {X : Type 0} → List X → ℕ → Reading (List X) → Reading (List X)
-ahead vs p (got l n) = got (vs ++ l) (p + n)
-ahead vs p (stuck n) = stuck (p + n)
+ahead vs p o = passed (λ l. vs ++ l) p o
 
 -- of what is read as o, k values and p bytes are passed, and the rest is read as r
 pub record Passed {X : Type 0} (o : Reading (List X)) (k p : ℕ) (r : Reading (List X)) : Type 0 where
@@ -41,10 +41,6 @@ module _ {X : Type 0} where
       }
 
   module _ (f : List ℕ → Reading X) (s : List ℕ) (at m : ℕ) where
-    shifted : (v : X) (n : ℕ) (o : Reading (List X)) → mapped pushed (shift v n o) ≡ ahead (v ∷ []) n o
-    shifted v n (got l j) = refl
-    shifted v n (stuck j) = refl
-
     -- exactly m
     pub times-end : m ≡ 0 → readTimes f m (drop at s) ≡ got [] 0
     times-end e = ap (λ (j : ℕ). readTimes f j (drop at s)) e
@@ -56,7 +52,7 @@ module _ {X : Type 0} where
     times-more v n h e =
         ap (λ (j : ℕ). readTimes f j (drop at s)) (let q : m ≡ suc (m - 1) = omega arith in q)
         ∙ ap (λ (o : Reading X). mapped pushed (andThen (drop at s) o (λ _ r. readTimes f (m - 1) r))) e
-        ∙ shifted v n (readTimes f (m - 1) (drop n (drop at s)))
+        ∙ shifted pushed v n (readTimes f (m - 1) (drop n (drop at s)))
         ∙ ap (λ (l : List ℕ). ahead (v ∷ []) n (readTimes f (m - 1) l)) (drop-drop n at s)
 
     -- up to m
@@ -82,5 +78,5 @@ module _ {X : Type 0} where
     pub upTo-more : (v : X) (n : ℕ) → 0 < m → at < length s → f (drop at s) ≡ got v n → readUpTo f m (drop at s) ≡ ahead (v ∷ []) n (readUpTo f (m - 1) (drop (at + n) s))
     upTo-more v n h k e =
         upTo-some h k ∙ ap (λ (o : Reading X). mapped pushed (andThen (drop at s) o (λ _ r. readUpTo f (m - 1) r))) e
-        ∙ shifted v n (readUpTo f (m - 1) (drop n (drop at s)))
+        ∙ shifted pushed v n (readUpTo f (m - 1) (drop n (drop at s)))
         ∙ ap (λ (l : List ℕ). ahead (v ∷ []) n (readUpTo f (m - 1) l)) (drop-drop n at s)

@@ -11,6 +11,7 @@ use lib.Dec.{leb, ltb, eqb, leb·zero, leb·suc-suc}
 use lib.ListN.{length, take, replicate, length-replicate, getD}
 use borrow.Author.Tests.{eq-eqb, ne-eqb, le-leb, lt-leb}
 use Rattle.paper.specs.Choose.{choose}
+use Rattle.paper.proofs.Choices.{and-false}
 use Rattle.text.specs.Code.{got, stuck, Any, Refused, Right, Prefix, Some}
 use Rattle.text.specs.Combine.{bump, All, closed, span, readClosedAt, readClosed}
 use Rattle.text.proofs.Lists.{le-or-lt, nil-cons}
@@ -23,10 +24,6 @@ leb-less lo n =
     (λ (h : lo ≤ suc n). le-leb lo (suc n) h ∙ sym (le-leb (lo - 1) n (omega arith)))
     (λ (h : suc n < lo). lt-leb lo (suc n) h ∙ sym (lt-leb (lo - 1) n (omega arith)))
     (le-or-lt lo (suc n))
-
-and-false : (a : Bool) → a && false ≡ false
-and-false true = refl
-and-false false = refl
 
 -- a class that has a byte has runs of every length
 pub all-replicate : (p : ℕ → Bool) (z : ℕ) → p z ≡ true → (n : ℕ) → All p (replicate n z)

@@ -65,13 +65,3 @@ pub common-start : (k s : List ℕ) (at : ℕ) → common k (drop at s) ≡ 0 + 
 common-start k s at =
     ap (λ (j : ℕ). common k (drop j s)) (let q : at ≡ at + 0 = omega arith in q)
     ∙ (let x = common k (drop (at + 0) s) in let q : x ≡ 0 + x = omega arith in q)
-
--- a span counts no further than it may
-pub span-le : (p : ℕ → Bool) (h : ℕ) (l : List ℕ) → span p h l ≤ h
-span-le p zero l = zero-le
-span-le p (suc h) [] = zero-le
-span-le p (suc h) (b ∷ l) = go (p b) (span-le p h l)
-  where
-    go : (t : Bool) → span p h l ≤ h → choose t (suc (span p h l)) 0 ≤ suc h
-    go true r = suc-le-suc r
-    go false r = zero-le

@@ -112,11 +112,11 @@ fn compared(word: usize, pins: usize, image: &[u8], font: &[u8]) {
 
 // Every SAM mode, in lines of 16 and of 32 bytes.
 fn modes(image: &[u8], font: &[u8]) {
-    let mut mode: usize = 0;
-    while mode < 8 {
-        compared(mode, 0x20, image, font);
-        compared(mode, 0x00, image, font);
-        mode += 1;
+    let mut word: usize = 0x4000;
+    while word < 0x4008 {
+        compared(word, 0x20, image, font);
+        compared(word, 0x00, image, font);
+        word += 1;
     }
 }
 
@@ -158,7 +158,7 @@ fn trips() {
 // All of them; a window that comes round at FFFF among them.
 fn compare(image: &[u8], font: &[u8]) {
     modes(image, font);
-    compared(0x03FE, 0x2E, image, font);
+    compared(0x43FE, 0x2E, image, font);
     trips();
 }
 

@@ -28,11 +28,16 @@ deedLine s = lineOf deedWord (fieldsIn s .deed)
 abbrev pub annotated : List ℕ → List ℕ
 annotated s = lineOf annotationsWord (decimal (length (fieldsIn s .annotations))) ++ lines (fieldsIn s .annotations)
 
--- pins, control and start in capital hex digits, and the mode's name
+-- what the chips were given: pins and control in capital hex digits
+abbrev pub givenLines : Settings → List ℕ
+givenLines s = lineOf pinsWord (hex 2 (s .look .pins)) ++ lineOf controlWord (hex 4 (s .word))
+
+-- what they show by it: the mode's name, and start in capital hex digits
+abbrev pub viewLines : Settings → List ℕ
+viewLines s = lineOf modeWord (modeName (s .look)) ++ lineOf startWord (hex 4 (addressOf s 0 0))
+
 abbrev pub settingLines : Settings → List ℕ
-settingLines s =
-    lineOf pinsWord (hex 2 (s .look .pins))
-    ++ (lineOf controlWord (hex 4 (s .word)) ++ (lineOf modeWord (modeName (s .look)) ++ lineOf startWord (hex 4 (addressOf s 0 0))))
+settingLines s = givenLines s ++ viewLines s
 
 -- the whole report: a success, a broken sheet, or another refusal
 unfoldable pub reportOf : List ℕ → List ℕ

@@ -8,7 +8,7 @@ ghost use Rattle.text.specs.Hex.{hexDigit, hex};
 ghost use Rattle.grammar.specs.Sheet.{nl};
 ghost use Rattle.grammar.specs.Given.{fieldsIn};
 ghost use Rattle.wording.specs.Words.{decimal, room, textOf, held, Holds};
-ghost use Rattle.wording.specs.Report.{settingLines, annotated, reportOf};
+ghost use Rattle.wording.specs.Report.{givenLines, viewLines, settingLines, annotated, reportOf};
 
 // The report's own keys; `deed=` and `pins=` are the sheet's.
 const STATUS_KEY: [u8; 7] = *b"status=";
@@ -122,24 +122,41 @@ fn number_line(text: Text, word: &[u8], n: usize) -> Text
     line(text, word, &bytes[from..])
 }
 
-// The lines of the settings: pins, control, mode and start.
+// The lines of what the chips were given: pins and control.
+fn given_lines(text: Text, settings: Settings) -> Text
+    requires { ⌜ Holds text × (text .len ≤ 1000) ⌝ }
+    ensures { λ r. ⌜ r ≡ textOf (held text ++ givenLines settings) ⌝ }
+    ensures { λ r. ⌜ Holds r × (r .len ≤ text .len + 25) ⌝ }
+{
+    let look = settings.look;
+    let pins = hex(look.pins as u16);
+    let one = line(text, &outline::PINS_KEY, &pins[2..]);
+    let control = hex(settings.word);
+    line(one, &CONTROL_KEY, &control)
+}
+
+// The lines of what they show by it: mode and start.
+fn view_lines(text: Text, settings: Settings) -> Text
+    requires { ⌜ Holds text × (text .len ≤ 2000) ⌝ }
+    ensures { λ r. ⌜ r ≡ textOf (held text ++ viewLines settings) ⌝ }
+    ensures { λ r. ⌜ Holds r × (r .len ≤ text .len + 25) ⌝ }
+{
+    let name = settings::mode_name(settings.look);
+    let letters = name.bytes;
+    let len = name.len;
+    let one = line(text, &MODE_KEY, &letters[..len]);
+    let first = counter::first(settings);
+    let start = hex(first.address);
+    line(one, &START_KEY, &start)
+}
+
+// The lines of the settings.
 fn setting_lines(text: Text, settings: Settings) -> Text
     requires { ⌜ Holds text × (text .len ≤ 1000) ⌝ }
     ensures { λ r. ⌜ r ≡ textOf (held text ++ settingLines settings) ⌝ }
     ensures { λ r. ⌜ Holds r × (r .len ≤ text .len + 50) ⌝ }
 {
-    let look = settings.look;
-    let pins = hex(look.pins as u16);
-    let control = hex(settings.word);
-    let name = settings::mode_name(look);
-    let letters = name.bytes;
-    let len = name.len;
-    let first = counter::first(settings);
-    let start = hex(first.address);
-    let one = line(text, &outline::PINS_KEY, &pins[2..]);
-    let two = line(one, &CONTROL_KEY, &control);
-    let three = line(two, &MODE_KEY, &letters[..len]);
-    line(three, &START_KEY, &start)
+    view_lines(given_lines(text, settings), settings)
 }
 
 // The number of annotations, and the annotation lines as they stand in the sheet.

@@ -6,15 +6,16 @@ use native.Mathlib.Omega.{arith}
 use lib.ListN.{getD}
 use borrow.Author.Tests.{eqb-true}
 use borrow.Author.Count.{below-more, below-none}
+use Rattle.settings.specs.Refusals.{frameLength}
 use Rattle.back.proofs.Backs.{alike}
 use Rattle.back.proofs.differ.Statement.{statement}
 use Rattle.back.proofs.differ.Tie as tie
 
 abbrev Inv-loop : tie.InvT-loop
-Inv-loop a b found₀ k₀ found k = (k ≤ 49152) × (found ≡ false → (j : ℕ) → j < k → getD a j 0 ≡ getD b j 0)
+Inv-loop a b found₀ k₀ found k = (k ≤ frameLength) × (found ≡ false → (j : ℕ) → j < k → getD a j 0 ≡ getD b j 0)
 
 abbrev μ-loop : tie.MeasureT-loop
-μ-loop a b found₀ k₀ found k = 49152 - k
+μ-loop a b found₀ k₀ found k = frameLength - k
 
 loop-holds : tie.Need-loop-holds Inv-loop μ-loop
 loop-holds c = (omega arith, λ _. below-none _)

@@ -5,9 +5,14 @@ use native.Mathlib.Omega.{arith}
 use denote.Ref.{now}
 use lib.ListN.{length-replicate}
 use borrow.Author.Needs.{needs}
+use Rattle.settings.specs.Refusals.{frameLength}
 use Rattle.back.proofs.Backs.{drawing-clean}
 use Rattle.back.proofs.first_stray.Statement.{statement}
 use Rattle.back.proofs.first_stray.Tie as tie
+
+-- where the call begins, from behind the drawing
+abbrev start-of : tie.After-draw → tie.Start
+start-of c = c .before .before .before .before
 
 slice-aggregate-draw : tie.Need-slice-aggregate-draw
 slice-aggregate-draw c = search needs
@@ -29,8 +34,9 @@ returns c = search needs
 
 returns-2 : tie.Need-returns-2
 returns-2 c =
-    let s = c .before .before .before .before .before .before .before .before in
-    sym (drawing-clean (s .args .look) (now (s .args .strip)) (now (s .args .strip)) (now (s .args .frame)) _ _ (s .pre .0) (s .pre .1) (s .pre .2) (omega (arith, length-replicate {A = ℕ} 49152 0)) (c .before .before .before .before .draw .ensures .1) (c .before .differ .ensures (c .if1 .left)))
+    let d = c .before .before .before .before in
+    let s = start-of d in
+    sym (drawing-clean (s .args .look) (now (s .args .strip)) (now (s .args .strip)) (now (s .args .frame)) _ _ (s .pre .0) (s .pre .1) (s .pre .2) (omega (arith, length-replicate {A = ℕ} frameLength 0)) (d .draw .ensures .1) (c .before .differ .ensures (c .if1 .left)))
 
 pub first-stray-spec : {M : Type 1} → statement M
 first-stray-spec =

@@ -5,6 +5,7 @@ use native.Mathlib.Omega.{arith}
 use denote.Ref.{now}
 use Rattle.paper.proofs.Fills.{none, step, upto}
 use Rattle.paper.specs.Written.{Filled}
+use Rattle.settings.specs.Refusals.{frameLength}
 use Rattle.back.specs.Read.{read}
 use Rattle.back.proofs.Shapes.{breadth-le, cell-within, byte-within, cell-start}
 use Rattle.back.proofs.line.Statement.{statement}
@@ -26,7 +27,7 @@ loop-holds : tie.Need-loop-holds Inv-loop μ-loop
 loop-holds c = (zero-le, upto (omega arith) (none _ _ _))
 
 -- the byte's pixels lie in the frame, and its place in the strip
-cell-at : (c : tie.In-loop Inv-loop μ-loop) → let s = c .before .before .before .before in let d = s .args .count * s .args .dots in s .args .n * 256 + c .before .loop .c * d + d ≤ 49152
+cell-at : (c : tie.In-loop Inv-loop μ-loop) → let s = c .before .before .before .before in let d = s .args .count * s .args .dots in s .args .n * 256 + c .before .loop .c * d + d ≤ frameLength
 cell-at c = let s = c .before .before .before .before in cell-within (s .pre .0) (s .args .n) (c .before .loop .c) (s .pre .1) (omega arith)
 
 byte-at : (c : tie.In-loop Inv-loop μ-loop) → let s = c .before .before .before .before in let w = 256 / (s .args .count * s .args .dots) in

@@ -5,15 +5,16 @@ use mathlib.Core.Path.{_≡_, sym, _∙_}
 use native.Mathlib.Omega.{arith}
 use borrow.Author.Count.{below-more, below-none}
 use Rattle.paper.proofs.Firsts.{first-none, first-at}
+use Rattle.settings.specs.Refusals.{frameLength}
 use Rattle.back.specs.Stray.{stray, firstStray}
 use Rattle.back.proofs.search.Statement.{statement}
 use Rattle.back.proofs.search.Tie as tie
 
 abbrev Inv-loop : tie.InvT-loop
-Inv-loop look frame k₀ k = (k ≤ 49152) × ((j : ℕ) → j < k → stray look frame j ≡ false)
+Inv-loop look frame k₀ k = (k ≤ frameLength) × ((j : ℕ) → j < k → stray look frame j ≡ false)
 
 abbrev μ-loop : tie.MeasureT-loop
-μ-loop look frame k₀ k = 49152 - k
+μ-loop look frame k₀ k = frameLength - k
 
 loop-holds : tie.Need-loop-holds Inv-loop μ-loop
 loop-holds c = (omega arith, below-none _)
@@ -37,8 +38,8 @@ loop-again c = (omega arith, below-more _ _ (c .before .before .before .loop .in
 returns-2 : tie.Need-returns-2 Inv-loop μ-loop
 unfolding firstStray
 returns-2 c =
-    let e : c .before .loop .k ≡ 49152 = omega arith in
-    e ∙ sym (first-none _ 49152 (λ j l. c .before .loop .inv .1 j (omega arith)))
+    let e : c .before .loop .k ≡ frameLength = omega arith in
+    e ∙ sym (first-none _ frameLength (λ j l. c .before .loop .inv .1 j (omega arith)))
 
 pub search-spec : {M : Type 1} → statement M
 search-spec =

@@ -16,12 +16,16 @@ Inv-loop lent base side room₀ column₀ room column =
 abbrev μ-loop : tie.MeasureT-loop
 μ-loop lent base side room₀ column₀ room column = side - column
 
+-- where the call begins, from the turn of the loop
+abbrev start-of : tie.In-loop Inv-loop μ-loop → tie.Start Inv-loop μ-loop
+start-of c = c .before .before .before .before
+
 loop-holds : tie.Need-loop-holds Inv-loop μ-loop
 loop-holds c = (omega arith, refl, start _)
 
 columns-requires : tie.Need-columns-requires Inv-loop μ-loop
 columns-requires c κs =
-    let a = c .before .before .before .before .before in
+    let a = start-of (c .before) in
     let l = c .before .before .loop in
     ((a .pre .0 .0, omega (arith, a .pre .0 .1, l .inv .1, c .before .loop-test .taken)), (a .pre .1 .0, a .pre .1 .1, omega (arith, a .pre .1 .2, l .inv .2 .long)))
 
@@ -33,7 +37,7 @@ loop-less c = omega arith
 
 loop-again : tie.Need-loop-again Inv-loop μ-loop
 loop-again c =
-    let a = c .before .before .before .before .before .before .before .before in
+    let a = start-of (c .before .before .before .before) in
     let l = c .before .before .before .before .before .loop in
     let t = c .before .before .before .before .loop-test .taken in
     (omega (arith, a .pre .0 .1, l .inv .1, t), omega (arith, l .inv .1), columns-more (c .before .before .columns .ensures (now (a .args .room)) (l .inv .2)))

@@ -19,10 +19,14 @@ Inv-loop lent side room₀ size base₀ room base =
 abbrev μ-loop : tie.MeasureT-loop
 μ-loop lent side room₀ size base₀ room base = length lent - base
 
+-- where the call begins, from the turn of the loop
+abbrev start-of : tie.In-loop Inv-loop μ-loop → tie.Start Inv-loop μ-loop
+start-of c = c .before .before .before .before
+
 -- the bank of this turn is lent whole
-fits : (c : tie.In-loop Inv-loop μ-loop) → c .before .loop .base + c .before .before .before .before .args .side * c .before .before .before .before .args .side ≤ length (now (c .before .before .before .before .args .lent))
+fits : (c : tie.In-loop Inv-loop μ-loop) → c .before .loop .base + start-of c .args .side * start-of c .args .side ≤ length (now (start-of c .args .lent))
 fits c =
-    let a = c .before .before .before .before in
+    let a = start-of c in
     bank-within (a .args .side * a .args .side) (c .before .loop .base) (c .before .loop .inv .1) (a .pre .1 .0) (c .loop-test .taken)
 
 mul-size : tie.Need-mul-size Inv-loop μ-loop
@@ -33,7 +37,7 @@ loop-holds c = let some = c .before .before .pre .0 .2 in (omega arith, mod-eq-o
 
 bank-requires : tie.Need-bank-requires Inv-loop μ-loop
 bank-requires c κs =
-    let a = c .before .before .before .before .before in
+    let a = start-of (c .before) in
     let l = c .before .before .loop in
     (a .pre .0, (l .inv .1, fits (c .before), omega (arith, fits (c .before), a .pre .1 .1, l .inv .2 .long)))
 
@@ -42,12 +46,12 @@ add-base c = omega (arith, fits (c .before .before .before .before))
 
 loop-less : tie.Need-loop-less Inv-loop μ-loop
 loop-less c =
-    let some = c .before .before .before .before .before .before .before .before .pre .0 .2 in
+    let some = start-of (c .before .before .before .before) .pre .0 .2 in
     omega (arith, mul-pos some some, fits (c .before .before .before .before))
 
 loop-again : tie.Need-loop-again Inv-loop μ-loop
 loop-again c =
-    let a = c .before .before .before .before .before .before .before .before .args in
+    let a = start-of (c .before .before .before .before) .args in
     let l = c .before .before .before .before .before .loop in
     (fits (c .before .before .before .before), bank-next (a .side * a .side) (l .base) (l .inv .1), join (omega arith) (omega arith) (l .inv .2) (c .before .before .bank .ensures))
 

@@ -1,13 +1,10 @@
 -- `chip::chip_answer` meets its contract.
-use mathlib.Core.Path.{refl}
-use mathlib.Core.Bool.{not}
-use mathlib.Core.List.{[], _∷_}
-use lib.Dec.{ltb}
+use mathlib.Core.Path.{_≡_, refl, _∙_}
+use Rattle.paper.specs.Told.{done}
+use Rattle.paper.proofs.Orders.{afterEach, in-order}
+use Rattle.answer.specs.Told.{toldOf}
+use Rattle.chip.specs.Chip.{chipOrder, chipTold}
 use borrow.Author.Needs.{needs}
-use Rattle.paper.specs.Told.{done, refused}
-use Rattle.paper.specs.Order.{check}
-use Rattle.paper.proofs.Orders.{checked}
-use Rattle.chip.specs.Chip.{chipFits, chipTold}
 use Rattle.chip.proofs.chip_answer.Statement.{statement}
 use Rattle.chip.proofs.chip_answer.Tie as tie
 
@@ -24,9 +21,8 @@ returns : tie.Need-returns
 unfolding chipTold
 returns c =
     let a = c .before .before .before .args in
-    let other = check (not (chipFits (a .k) (a .lent))) (refused 13) in
-    let e = checked (done 0) refl [] other tt refl (rw (c .before .before .fits2 .ensures) at (c .before .check .ensures)) in
-    checked (done 0) refl (other ∷ []) (check (ltb (a .room) (a .lent)) (refused 14)) tt e (c .check2 .ensures)
+    let e : toldOf (c .check2 .result) ≡ afterEach (chipOrder (a .k) (a .lent) (a .room)) (done 0) = cc in
+    e ∙ in-order (done 0) refl (chipOrder (a .k) (a .lent) (a .room)) tt
 
 pub chip-answer-spec : {M : Type 1} → statement M
 chip-answer-spec = tie.close (tie.spec fits-requires check-requires check-requires-2 returns)

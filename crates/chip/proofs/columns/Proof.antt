@@ -32,33 +32,37 @@ within side column row wide below = record {
   piece = digits-lt {q = row} {m = side} {r = column + 63} {c = side} below (omega arith);
 }
 
-here : (c : tie.In-loop Inv-loop μ-loop) → Within (c .before .before .before .before .args .side) (c .before .before .before .before .args .column) (c .before .loop .row)
-here c = let a = c .before .before .before .before in within (a .args .side) (a .args .column) (c .before .loop .row) (a .pre .0 .1) (c .loop-test .taken)
+-- where the call begins, from the turn of the loop
+abbrev start-of : tie.In-loop Inv-loop μ-loop → tie.Start Inv-loop μ-loop
+start-of c = c .before .before .before .before
+
+here : (c : tie.In-loop Inv-loop μ-loop) → Within (start-of c .args .side) (start-of c .args .column) (c .before .loop .row)
+here c = let a = start-of c in within (a .args .side) (a .args .column) (c .before .loop .row) (a .pre .0 .1) (c .loop-test .taken)
 
 loop-holds : tie.Need-loop-holds Inv-loop μ-loop
 loop-holds c = (omega arith, refl, λ old x. x)
 
 mul-from : tie.Need-mul-from Inv-loop μ-loop
-mul-from c = omega (arith, here c .first, c .before .before .before .before .pre .1)
+mul-from c = omega (arith, here c .first, start-of c .pre .1)
 
 add-from : tie.Need-add-from Inv-loop μ-loop
-add-from c = omega (arith, here c .first, c .before .before .before .before .pre .1)
+add-from c = omega (arith, here c .first, start-of c .pre .1)
 
 add-from-2 : tie.Need-add-from-2 Inv-loop μ-loop
-add-from-2 c = omega (arith, here c .first, c .before .before .before .before .pre .1)
+add-from-2 c = omega (arith, here c .first, start-of c .pre .1)
 
 mul-at : tie.Need-mul-at Inv-loop μ-loop
-mul-at c = omega (arith, here c .piece, c .before .before .before .before .pre .1)
+mul-at c = omega (arith, here c .piece, start-of c .pre .1)
 
 add-at : tie.Need-add-at Inv-loop μ-loop
-add-at c = omega (arith, here c .piece, c .before .before .before .before .pre .1)
+add-at c = omega (arith, here c .piece, start-of c .pre .1)
 
 add-at-2 : tie.Need-add-at-2 Inv-loop μ-loop
-add-at-2 c = omega (arith, here c .piece, c .before .before .before .before .pre .1)
+add-at-2 c = omega (arith, here c .piece, start-of c .pre .1)
 
 piece-requires : tie.Need-piece-requires Inv-loop μ-loop
 piece-requires c κs =
-    let a = c .before .before .before .before .before in
+    let a = start-of (c .before) in
     (a .pre .0 .0, omega (arith, here (c .before) .last, a .pre .1), omega (arith, here (c .before) .piece, a .pre .1, c .before .before .loop .inv .1))
 
 add-row : tie.Need-add-row Inv-loop μ-loop
@@ -69,7 +73,7 @@ loop-less c = omega arith
 
 loop-again : tie.Need-loop-again Inv-loop μ-loop
 loop-again c =
-    let a = c .before .before .before .before .before .before .before .before in
+    let a = start-of (c .before .before .before .before) in
     let l = c .before .before .before .before .before .loop in
     let f = c .before .before .piece .ensures in
     let below : l .row < a .args .side = c .before .before .before .before .loop-test .taken in

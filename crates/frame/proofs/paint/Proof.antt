@@ -9,15 +9,19 @@ use Rattle.paper.proofs.Fills.{by}
 use Rattle.frame.proofs.paint.Statement.{statement}
 use Rattle.frame.proofs.paint.Tie as tie
 
+-- where the call begins, from behind the test of A/G
+abbrev start-of : tie.After-graphics → tie.Start
+start-of c = c .before .before .before .before
+
 graphics-requires : tie.Need-graphics-requires
 graphics-requires c κs = search needs
 
 plot-requires : tie.Need-plot-requires
-plot-requires c κs = let s = c .before .before .before .before .before .before in (sym (c .before .before .graphics .ensures) ∙ c .before .if1 .taken, s .pre .strip-long, s .pre .frame-long)
+plot-requires c κs = let s = start-of (c .before .before) in (sym (c .before .before .graphics .ensures) ∙ c .before .if1 .taken, s .pre .strip-long, s .pre .frame-long)
 
 text-requires : tie.Need-text-requires
 text-requires c κs =
-    let s = c .before .before .before .before .before .before in
+    let s = start-of (c .before .before) in
     let g = sym (c .before .before .graphics .ensures) ∙ c .before .if1 .left in
     (g, s .pre .font-whole g, omega (arith, text-width (s .args .look) g, s .pre .strip-long), s .pre .frame-long)
 
@@ -26,8 +30,9 @@ same-length c = search needs
 
 returns : tie.Need-returns
 returns c =
-    let s = c .before .before .before .before .before .before .before .before .before in
-    by (λ k _ _. sym (in-graphics (s .args .look) (now (s .args .font)) (now (s .args .strip)) k (sym (c .before .before .before .before .before .graphics .ensures) ∙ c .before .before .before .before .if1 .taken)))
+    let g = c .before .before .before .before .before in
+    let s = start-of g in
+    by (λ k _ _. sym (in-graphics (s .args .look) (now (s .args .font)) (now (s .args .strip)) k (sym (g .graphics .ensures) ∙ c .before .before .before .before .if1 .taken)))
     (c .before .before .plot .ensures)
 
 same-length-2 : tie.Need-same-length-2

@@ -6,13 +6,14 @@ use denote.Ref.{now}
 use borrow.Author.Needs.{needs}
 use Rattle.paper.proofs.Fills.{none, join, by, upto}
 use Rattle.paper.specs.Written.{Filled}
-use Rattle.frame.specs.Steps.{shown}
+use Rattle.settings.specs.Refusals.{frameLength}
+use Rattle.frame.specs.Steps.{plotted}
 use Rattle.frame.proofs.Stretches.{stretch-pos, stretch-le, byte-within, cell-within, cell-end, line-end, cell}
 use Rattle.frame.proofs.plot_line.Statement.{statement}
 use Rattle.frame.proofs.plot_line.Tie as tie
 
 abbrev Inv-loop : tie.InvT-loop
-Inv-loop stretch table strip n frame₀ width c₀ frame c = (c ≤ 32 / stretch) × Filled (shown stretch table strip) (n * 256) (n * 256 + c * (8 * stretch)) frame₀ frame
+Inv-loop stretch table strip n frame₀ width c₀ frame c = (c ≤ 32 / stretch) × Filled (plotted stretch table strip) (n * 256) (n * 256 + c * (8 * stretch)) frame₀ frame
 
 abbrev μ-loop : tie.MeasureT-loop
 μ-loop stretch table strip n frame₀ width c₀ frame c = 32 / stretch - c
@@ -28,7 +29,7 @@ byte-at : (c : tie.In-loop Inv-loop μ-loop) → let s = c .before .before .befo
     (n * w + c .before .loop .c < 192 * w) × (n * w + c .before .loop .c < 6144)
 byte-at c = let s = c .before .before .before .before in byte-within (s .pre .0) (s .args .n) (c .before .loop .c) (s .pre .1) (omega arith)
 
-cell-at : (c : tie.After-copy-arg Inv-loop μ-loop) → let l = c .before .before .before .before in let s = l .before .before .before in let d = 8 * s .args .stretch in s .args .n * 256 + l .loop .c * d + d ≤ 49152
+cell-at : (c : tie.After-copy-arg Inv-loop μ-loop) → let l = c .before .before .before .before in let s = l .before .before .before in let d = 8 * s .args .stretch in s .args .n * 256 + l .loop .c * d + d ≤ frameLength
 cell-at c =
     let l = c .before .before .before .before in
     let s = l .before .before .before in

@@ -3,12 +3,12 @@ use Prim.Native.Nat.{_-_, _*_, _≤_, zero-le}
 use native.Mathlib.Omega.{arith}
 use Rattle.paper.proofs.Fills.{none, join, upto}
 use Rattle.paper.specs.Written.{Filled}
-use Rattle.frame.specs.Steps.{shown}
+use Rattle.frame.specs.Steps.{plotted}
 use Rattle.frame.proofs.plot_lines.Statement.{statement}
 use Rattle.frame.proofs.plot_lines.Tie as tie
 
 abbrev Inv-loop : tie.InvT-loop
-Inv-loop stretch table strip frame₀ n₀ frame n = (n ≤ 192) × Filled (shown stretch table strip) 0 (n * 256) frame₀ frame
+Inv-loop stretch table strip frame₀ n₀ frame n = (n ≤ 192) × Filled (plotted stretch table strip) 0 (n * 256) frame₀ frame
 
 abbrev μ-loop : tie.MeasureT-loop
 μ-loop stretch table strip frame₀ n₀ frame n = 192 - n

@@ -16,6 +16,10 @@ Inv-loop look font strip frame₀ masks rows line₀ frame line = (line ≤ 192)
 abbrev μ-loop : tie.MeasureT-loop
 μ-loop look font strip frame₀ masks rows line₀ frame line = 192 - line
 
+-- where the call begins, from behind the letters
+abbrev start-of : tie.After-glyphs Inv-loop μ-loop → tie.Start Inv-loop μ-loop
+start-of c = c .before .before .before .before .before .before .before
+
 by-bits-requires : tie.Need-by-bits-requires Inv-loop μ-loop
 by-bits-requires c κs = search needs
 
@@ -26,7 +30,7 @@ loop-holds : tie.Need-loop-holds Inv-loop μ-loop
 loop-holds c = (omega arith, none _ _ _)
 
 text-line-requires : tie.Need-text-line-requires Inv-loop μ-loop
-text-line-requires c κs = let l = c .before .before .before .before in ((omega arith, l .before .before .before .before .before .before .before .before .pre .2, omega (arith, l .loop .inv .1 .long)), λ j h. l .before .before .before .by-bits .ensures .is j zero-le h)
+text-line-requires c κs = let l = c .before .before .before .before in ((omega arith, start-of (l .before) .pre .2, omega (arith, l .loop .inv .1 .long)), λ j h. l .before .before .before .by-bits .ensures .is j zero-le h)
 
 add-line : tie.Need-add-line Inv-loop μ-loop
 add-line c = omega arith
@@ -43,7 +47,7 @@ same-length c = c .before .loop .inv .1 .long
 returns : tie.Need-returns Inv-loop μ-loop
 returns c =
     let g = c .before .before in
-    let s = g .before .before .before .before .before .before .before in
+    let s = start-of g in
     by (λ k _ _. typed-picture (s .args .look) _ (now (s .args .strip)) (now (s .args .font)) _ (s .pre .0) (g .glyphs .ensures) (λ j. g .before .before .before .before .before .shared-slice-known2 .given j .fits) k)
     (upto (omega arith) (c .before .loop .inv .1))
 

@@ -18,6 +18,10 @@ Inv-loop look masks glyphs strip n frame₀ row c₀ frame c = (c ≤ 32) × Fil
 abbrev μ-loop : tie.MeasureT-loop
 μ-loop look masks glyphs strip n frame₀ row c₀ frame c = 32 - c
 
+-- the turn of the loop, from behind the ink
+abbrev turn : tie.After-ink Inv-loop μ-loop → tie.At-loop Inv-loop μ-loop
+turn c = c .before .before .before .before .before
+
 loop-holds : tie.Need-loop-holds Inv-loop μ-loop
 loop-holds c = (omega arith, upto (omega arith) (none _ _ _))
 
@@ -55,7 +59,7 @@ add-tint-2 : tie.Need-add-tint-2 Inv-loop μ-loop
 add-tint-2 c = omega arith
 
 tint-requires : tie.Need-tint-requires Inv-loop μ-loop
-tint-requires c κs = ((c .before .ink .ensures .1, omega (arith, c .before .before .before .before .before .before .loop .inv .1 .long)), c .before .before .before .before .before .before .before .before .before .pre .1)
+tint-requires c κs = ((c .before .ink .ensures .1, omega (arith, turn (c .before) .loop .inv .1 .long)), turn (c .before) .before .before .before .pre .1)
 
 add-c : tie.Need-add-c Inv-loop μ-loop
 add-c c = omega arith
@@ -65,9 +69,9 @@ loop-less c = omega arith
 
 loop-again : tie.Need-loop-again Inv-loop μ-loop
 loop-again c =
-    let l = c .before .before .before .before .before .before .before .before .before in
-    let s = l .before .before .before in
     let i = c .before .before .before .before in
+    let l = turn i in
+    let s = l .before .before .before in
     let w = i .before .before in (
       omega arith,
       upto (omega arith)

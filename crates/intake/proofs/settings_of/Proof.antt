@@ -9,6 +9,7 @@ use Rattle.paper.specs.Told.{Told, done}
 use Rattle.paper.specs.Order.{firstOf}
 use Rattle.answer.specs.Told.{toldOf}
 use Rattle.settings.specs.declared.Settings.{Settings}
+use Rattle.settings.specs.Fields.{settingsOf}
 use Rattle.control.specs.Control.{played, playTold}
 use Rattle.control.proofs.Plays.{played-done}
 use Rattle.grammar.specs.Given.{toldIn, fieldsIn}
@@ -18,9 +19,6 @@ use Rattle.intake.proofs.Judges.{told-broken, told-elsewhere, told-sett
 use borrow.Author.Needs.{needs}
 use Rattle.intake.proofs.settings_of.Statement.{statement}
 use Rattle.intake.proofs.settings_of.Tie as tie
-
-abbrev settingsWith : ℕ → ℕ → Settings
-settingsWith w p = record { word = w; look = record { pins = p } }
 
 -- ---- the sheet's bytes and what was read of them, from each place
 abbrev bytes : tie.After-read → List ℕ
@@ -40,14 +38,14 @@ play-of c = c .before .before
 
 -- the number of annotations, and the writes
 counted : (c : tie.After-read) → fields c .annotations ≡ length (fieldsIn (bytes c) .annotations)
-counted c = c .read .ensures .1 .1 .1 .1
+counted c = c .read .ensures .annotations
 
 listed : (c : tie.After-read) → take (fields c .«write_count») (fields c .writes) ≡ fieldsIn (bytes c) .writes
-listed c = writes-are (fieldsIn (bytes c) .writes) (fields c .writes) (fields c .«write_count») (c .read .ensures .1 .1 .0) (c .read .ensures .1 .1 .1 .0)
+listed c = writes-are (fieldsIn (bytes c) .writes) (fields c .writes) (fields c .«write_count») (c .read .ensures .writes) (c .read .ensures .count)
 
 -- past the first test the sheet is accepted, and its writes are played
 accepted-at : (c : tie.Else1) → toldIn (bytes (read-of c)) .number ≡ 0
-accepted-at c = ap (λ (t : Told). t .number) (sym (read-of c .read .ensures .0)) ∙ sym (c .before .number .ensures) ∙ c .if1 .left
+accepted-at c = ap (λ (t : Told). t .number) (sym (read-of c .read .ensures .told)) ∙ sym (c .before .number .ensures) ∙ c .if1 .left
 
 played-all : (c : tie.After-play) → toldOf (c .play .result) ≡ playTold 0 (fieldsIn (bytes (read-of (whole-of c))) .writes)
 played-all c = c .play .ensures ∙ ap (playTold 0) (listed (read-of (whole-of c)))
@@ -66,9 +64,9 @@ word-is c =
     let e = c .value .ensures ∙ ap (λ (t : Told). t .value) (played-all (play-of (c .before)) ∙ d .0) in
     (e, rw e (d .1))
 
-settings-are : (c : tie.After-value) → settingsWith (c .value .result) (fields (sheet-of c) .pins) ≡ settingsIn (bytes (sheet-of c))
+settings-are : (c : tie.After-value) → settingsOf (c .value .result) (fields (sheet-of c) .pins) ≡ settingsIn (bytes (sheet-of c))
 unfolding settingsIn
-settings-are c = ap₂ settingsWith (word-is c .0) (sheet-of c .read .ensures .1 .0)
+settings-are c = ap₂ settingsOf (word-is c .0) (sheet-of c .read .ensures .pins)
 
 judged : (c : tie.After-settings-answer) → toldOf (c .settings-answer .result) ≡ intakeTold (bytes (sheet-of (c .before)))
 judged c =
@@ -88,17 +86,17 @@ returns : tie.Need-returns
 returns c =
     let r = c .before .before .before in
     let no : toldOf (fields r .answer) .number ≡ 0 → ⊥ = λ z. c .before .if1 .taken (c .before .before .number .ensures ∙ z) in
-    taken-refused (bytes r) (fields r .answer) (told-broken (bytes r) (r .read .ensures .0) no) (counted r) (c .refused .ensures) no
+    taken-refused (bytes r) (fields r .answer) (told-broken (bytes r) (r .read .ensures .told) no) (counted r) (c .refused .ensures) no
 
 array-share-prefix-writes : tie.Need-array-share-prefix-writes
 array-share-prefix-writes c =
     let r = read-of (c .before) in
-    writes-within (fieldsIn (bytes r) .writes) (fields r .writes) (fields r .«write_count») (r .read .ensures .1 .1 .0) (r .read .ensures .1 .1 .1 .0)
+    writes-within (fieldsIn (bytes r) .writes) (fields r .writes) (fields r .«write_count») (r .read .ensures .writes) (r .read .ensures .count)
 
 slice-aggregate-play : tie.Need-slice-aggregate-play
 slice-aggregate-play c =
     let r = read-of (c .before .before) in
-    r .read .ensures .1 .1 .1 .0 ∙ sym (ap length (listed r))
+    r .read .ensures .count ∙ sym (ap length (listed r))
 
 play-requires : tie.Need-play-requires
 play-requires c κs = search needs

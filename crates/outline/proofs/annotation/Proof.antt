@@ -1,12 +1,13 @@
 -- `annotation`: where an annotation line lies, and its number of bytes.
-use Prim.Native.Nat.{ℕ, _+_, _-_, _<_}
+use Prim.Native.Nat.{ℕ, _+_, _<_}
 use native.Mathlib.Omega.{arith}
 use mathlib.Core.Path.{_≡_, sym, _∙_, ap}
+use mathlib.Core.List.{List}
 use borrow.Author.Needs.{needs}
 use lib.ListN.{length, take, drop}
 use denote.Ref.{now}
 use Rattle.grammar.specs.Sheet.{line, lines}
-use Rattle.grammar.specs.Read.{readAnnotation, readLines, readSheet}
+use Rattle.grammar.specs.Read.{readAnnotation, readSheet}
 use Rattle.grammar.specs.Given.{fieldsIn, tailFrom}
 use Rattle.outline.specs.Steps.{stepOf}
 use Rattle.outline.specs.declared.Step.{Step}
@@ -15,34 +16,40 @@ use Rattle.outline.proofs.Outlined.{WholeGiven, whole-given, count-give
 use Rattle.outline.proofs.annotation.Statement.{statement}
 use Rattle.outline.proofs.annotation.Tie as tie
 
--- the sheet is whole, and the line is one of it
-found : (c : tie.Then1) → WholeGiven (readSheet (now (c .before .before .before .before .args .s))) (c .before .before .survey .result)
-found c = whole-given (readLines (now (c .before .before .before .before .args .s))) (c .before .before .survey .result) (c .before .before .survey .ensures) (some-whole (readLines (now (c .before .before .before .before .args .s))) (c .before .before .survey .result) (c .before .before .survey .ensures) (omega arith))
+-- ---- at the place where the line is one of the sheet: the sheet, and the line's number
+abbrev sheet : tie.Then1 → List ℕ
+sheet c = now (c .before .before .before .before .args .s)
 
-in-range : (c : tie.Then1) → c .before .before .before .before .args .n < length (fieldsIn (now (c .before .before .before .before .args .s)) .annotations)
-in-range c = omega (arith, count-given (readLines (now (c .before .before .before .before .args .s))) (c .before .before .survey .result) (c .before .before .survey .ensures))
+abbrev which : tie.Then1 → ℕ
+which c = c .before .before .before .before .args .n
 
-here : (c : tie.Then1) → LineIn (now (c .before .before .before .before .args .s)) (c .before .before .before .before .args .n)
-here c = line-in (now (c .before .before .before .before .args .s)) (c .before .before .before .before .args .n) (found c .is-got) (in-range c)
+-- the sheet is whole, and the line lies in it
+found : (c : tie.Then1) → WholeGiven (readSheet (sheet c)) (c .before .before .survey .result)
+found c =
+    let r = c .before .before .survey in
+    whole-given (readSheet (sheet c)) (r .result) (r .ensures) (some-whole (readSheet (sheet c)) (r .result) (r .ensures) (omega arith))
+
+in-range : (c : tie.Then1) → which c < length (fieldsIn (sheet c) .annotations)
+in-range c = let r = c .before .before .survey in omega (arith, count-given (readSheet (sheet c)) (r .result) (r .ensures))
+
+here : (c : tie.Then1) → LineIn (sheet c) (which c)
+here c = line-in (sheet c) (which c) (found c .is-got) (in-range c)
 
 -- where it starts, and its number of bytes with the line end
-started : (c : tie.After-annotation-start) → c .annotation-start .result ≡ tailFrom (now (c .before .before .before .before .before .args .s)) + length (lines (take (c .before .before .before .before .before .args .n) (fieldsIn (now (c .before .before .before .before .before .args .s)) .annotations)))
-started c = c .annotation-start .ensures ∙ line-from (now (c .before .before .before .before .before .args .s)) (c .before .before .before .before .before .args .n) (in-range (c .before))
+started : (c : tie.After-annotation-start) → c .annotation-start .result ≡ tailFrom (sheet (c .before)) + length (lines (take (which (c .before)) (fieldsIn (sheet (c .before)) .annotations)))
+started c = c .annotation-start .ensures ∙ line-from (sheet (c .before)) (which (c .before)) (in-range (c .before))
 
 sized : (c : tie.After-struct-known2) → c .before .annotation-line .result .size ≡ length (line (here (c .before .before .before) .value)) + 1
 sized c =
-    let s = now (c .before .before .before .before .before .before .before .args .s) in
+    let p = c .before .before .before in
     let r = c .before .annotation-line in
-    ap (λ (x : Step). x .size) (r .ensures .0 ∙ ap (λ (j : ℕ). stepOf (readAnnotation (drop j s))) (started (c .before .before)) ∙ ap stepOf (here (c .before .before .before) .read))
+    ap (λ (x : Step). x .size) (r .ensures .0 ∙ ap (λ (j : ℕ). stepOf (readAnnotation (drop j (sheet p)))) (started (c .before .before)) ∙ ap stepOf (here p .read))
 
 survey-requires : tie.Need-survey-requires
 survey-requires c κs = search needs
 
 annotation-start-requires : tie.Need-annotation-start-requires
-annotation-start-requires c κs =
-    let s = now (c .before .before .before .before .args .s) in
-    let g = found c in
-    (g .is-got, (g .tail ∙ sym (tail-at s (g .is-got)), in-range c))
+annotation-start-requires c κs = let g = found c in (g .is-got, (g .tail ∙ sym (tail-at (sheet c) (g .is-got)), in-range c))
 
 annotation-line-requires : tie.Need-annotation-line-requires
 annotation-line-requires c κs = omega (arith, started c, here (c .before) .within)
@@ -56,7 +63,7 @@ returns c = (c .before .before .annotation-start .ensures, omega (arith, sized c
 returns-2 : tie.Need-returns-2
 returns-2 c =
     let s = now (c .before .before .before .before .args .s) in
-    let z = none-from s (c .before .before .before .before .args .n) (omega (arith, count-given (readLines s) (c .before .before .survey .result) (c .before .before .survey .ensures))) in
+    let z = none-from s (c .before .before .before .before .args .n) (omega (arith, count-given (readSheet s) (c .before .before .survey .result) (c .before .before .survey .ensures))) in
     (sym (z .0), sym (z .1))
 
 pub annotation-spec : {M : Type 1} → statement M

@@ -15,6 +15,10 @@ use Rattle.outline.proofs.Annotated.{key-stuck, key-read, key-taken, ke
 use Rattle.outline.proofs.annotation_line.Statement.{statement}
 use Rattle.outline.proofs.annotation_line.Tie as tie
 
+-- the bytes from the line on, at the place where its key is whole
+abbrev line : tie.Else1 → List ℕ
+line c = let a = c .before .before .before .before .args in drop (a .at) (now (a .s))
+
 closed-run-requires : tie.Need-closed-run-requires
 closed-run-requires c κs = search needs
 
@@ -30,17 +34,15 @@ is-free-requires c κs = search needs
 
 sub-t8 : tie.Need-sub-t8
 sub-t8 c =
-    let a = c .before .before .before .before .before .before .before .args in
-    let l = drop (a .at) (now (a .s)) in
-    let k = c .before .before .before .before .before .closed-run in
-    key-read l (k .result) (k .ensures .0) (not-false _ (c .before .before .before .if1 .left)) .some
+    let p = c .before .before .before in
+    let k = p .before .before .closed-run in
+    key-read (line p) (k .result) (k .ensures .0) (not-false _ (p .if1 .left)) .some
 
 returns-2 : tie.Need-returns-2
 returns-2 c =
-    let a = c .before .before .before .before .before .before .before .args in
-    let l = drop (a .at) (now (a .s)) in
-    let k = c .before .before .before .before .before .closed-run in
-    (key-taken l (k .result) (k .ensures .0) (not-false _ (c .before .before .before .if1 .left)) (sym (c .before .before .is-free .ensures) ∙ not-true _ (c .before .if2 .taken)), omega (arith, k .ensures .1))
+    let p = c .before .before .before in
+    let k = p .before .before .closed-run in
+    (key-taken (line p) (k .result) (k .ensures .0) (not-false _ (p .if1 .left)) (sym (c .before .before .is-free .ensures) ∙ not-true _ (c .before .if2 .taken)), omega (arith, k .ensures .1))
 
 add-closed-run : tie.Need-add-closed-run
 add-closed-run c = search needs
@@ -53,11 +55,13 @@ add-t9 c = search needs
 
 returns-3 : tie.Need-returns-3
 returns-3 c =
-    let a = c .before .before .before .before .before .before .before .before .before .before .args in
-    let l = drop (a .at) (now (a .s)) in
-    let k = c .before .before .before .before .before .before .before .before .closed-run in
+    let q = c .before .before .before .before in
+    let p = q .before .before in
+    let a = p .before .before .before .before .args in
+    let k = p .before .before .closed-run in
     let v = c .before .before .closed-run2 in
-    (key-free l (k .result) (k .ensures .0) (not-false _ (c .before .before .before .before .before .before .if1 .left)) (sym (c .before .before .before .before .before .is-free .ensures) ∙ not-false _ (c .before .before .before .before .if2 .left)) (v .result) (v .ensures .0 ∙ ap (λ (x : List ℕ). stepOf (readClosed valueByte 0 120 10 x)) (sym (drop-drop (k .result .size) (a .at) (now (a .s))))), omega (arith, v .ensures .1))
+    let e = v .ensures .0 ∙ ap (λ (x : List ℕ). stepOf (readClosed valueByte 0 120 10 x)) (sym (drop-drop (k .result .size) (a .at) (now (a .s)))) in
+    (key-free (line p) (k .result) (k .ensures .0) (not-false _ (p .if1 .left)) (sym (q .before .is-free .ensures) ∙ not-false _ (q .if2 .left)) (v .result) e, omega (arith, v .ensures .1))
 
 pub annotation-line-spec : {M : Type 1} → statement M
 annotation-line-spec =

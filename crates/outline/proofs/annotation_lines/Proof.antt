@@ -23,9 +23,14 @@ Inv-loop s from at₀ many₀ at many =
 abbrev μ-loop : tie.MeasureT-loop
 μ-loop s from at₀ many₀ at many = length s - at
 
--- the line that is read in this turn
-one : (c : tie.After-struct-known3 Inv-loop μ-loop) → One (drop (c .before .before .before .before .before .before .loop .at) (now (c .before .before .before .before .before .before .before .before .args .s))) (c .before .before .before .annotation-line .result .size)
-one c = one-line (drop (c .before .before .before .before .before .before .loop .at) (now (c .before .before .before .before .before .before .before .before .args .s))) (c .before .before .before .annotation-line .result) (c .before .before .before .annotation-line .ensures .0) (not-false _ (c .before .if2 .left))
+-- the turn of the loop, and the line that is read in it
+abbrev turn : tie.After-struct-known3 Inv-loop μ-loop → tie.At-loop Inv-loop μ-loop
+turn c = c .before .before .before .before .before .before
+
+one : (c : tie.After-struct-known3 Inv-loop μ-loop) → One (drop (turn c .loop .at) (now (turn c .before .before .args .s))) (c .before .before .before .annotation-line .result .size)
+one c =
+    let r = c .before .before .before .annotation-line in
+    one-line (drop (turn c .loop .at) (now (turn c .before .before .args .s))) (r .result) (r .ensures .0) (not-false _ (c .before .if2 .left))
 
 loop-holds : tie.Need-loop-holds Inv-loop μ-loop
 loop-holds c =
@@ -53,8 +58,9 @@ add-t10 c = omega (arith, c .before .before .before .annotation-line .ensures .1
 
 returns-2 : tie.Need-returns-2 Inv-loop μ-loop
 returns-2 c =
-    let a = c .before .before .before .before .before .before .before .before .args in
-    let l = c .before .before .before .before .before .before .loop in
+    let t = c .before .before .before .before .before .before in
+    let a = t .before .before .args in
+    let l = t .loop in
     let r = c .before .before .before .annotation-line in
     (lines-stuck (readAnnotations (drop (a .from) (now (a .s)))) (readUpTo readAnnotation (200 - l .many) (drop (l .at) (now (a .s)))) (l .many) (l .at - a .from) (l .inv .3) (r .result .size) (upTo-stuck readAnnotation (now (a .s)) (l .at) (200 - l .many) (r .result .size) (omega arith) (omega arith) (not-whole (readAnnotation (drop (l .at) (now (a .s)))) (r .result) (r .ensures .0) (not-true _ (c .before .if2 .taken)))), omega (arith, r .ensures .1))
 
@@ -69,8 +75,8 @@ loop-less c = omega (arith, one c .some, c .before .before .before .annotation-l
 
 loop-again : tie.Need-loop-again Inv-loop μ-loop
 loop-again c =
-    let a = c .before .before .before .before .before .before .before .before .args in
-    let l = c .before .before .before .before .before .before .loop in
+    let a = turn c .before .before .args in
+    let l = turn c .loop in
     let r = c .before .before .before .annotation-line in
     let n = r .result .size in
     let o = readAnnotations (drop (a .from) (now (a .s))) in (

@@ -1,7 +1,7 @@
 -- `survey`: one pass over a sheet, line by line.
 use Prim.Native.Nat.{ℕ, _+_, _^_, _<_}
 use native.Mathlib.Omega.{arith}
-use mathlib.Core.Path.{refl, sym, _∙_, ap, subst}
+use mathlib.Core.Path.{_≡_, refl, sym, _∙_, ap, subst}
 use mathlib.Core.List.{List, _++_}
 use borrow.Author.Tests.{not-true, not-false}
 use borrow.Author.Needs.{needs}
@@ -11,23 +11,22 @@ use denote.Ref.{now}
 use Rattle.text.specs.Code.{got}
 use Rattle.text.specs.Combine.{readTimes}
 use Rattle.text.specs.Hex.{hexValue}
+use Rattle.text.proofs.Rests.{Rest, unread, rest-read, first-sticks, first-passes, next-sticks, next-passes}
 use Rattle.text.proofs.Hexes.{value-lt}
 use Rattle.grammar.specs.Sheet.{deedByte, deedWord, pinsWord, eq}
-use Rattle.grammar.specs.Read.{readDeed, readCount, readAt, readAnnotations}
+use Rattle.grammar.specs.Read.{readDeed, readPins, readCount, readAt, readAnnotations, toFields, readSheet}
+use Rattle.grammar.specs.Given.{padded}
+use Rattle.grammar.proofs.Grammar.{readFromPins, readFromCount, readFromWrites}
 use Rattle.outline.specs.Steps.{outlineOf}
 use Rattle.outline.proofs.Stepped.{not-whole}
 use Rattle.outline.proofs.Counting.{counted-got, counted-stuck}
 use Rattle.outline.proofs.Written.{written-got, written-stuck}
-use Rattle.outline.proofs.Fields.{field, hex-field, hex-stuck}
-use Rattle.outline.proofs.Surveyed.{DeedAt, PinsAt, CountAt, WritesAt, count-most, stuck-deed, stuck-pins, stuck-count, stuck-writes, stuck-annotations, outlined}
+use Rattle.outline.proofs.Fields.{Field, HexField, field, hex-field, hex-stuck}
+use Rattle.outline.proofs.Surveyed.{count-most, writes-many, outlined}
 use Rattle.outline.proofs.survey.Statement.{statement}
 use Rattle.outline.proofs.survey.Tie as tie
 
--- the sheet's length is a number of the machine
-short : (c : tie.After-shared-slice-known) → length (now (c .before .args .s)) < 2 ^ 64
-short c = omega arith
-
--- ---- the places after the deed line, the pins, the number of writes and the writes: each holds the one before, the sheet and its line's size
+-- ---- the places after the deed's line, the pins, the number of writes, and the writes: each holds the one before
 abbrev deed-of : tie.Else2 → tie.Else1
 deed-of c = c .before .before .before .before
 
@@ -37,66 +36,53 @@ pins-of c = c .before .before .before .before
 abbrev count-of : tie.Else4 → tie.Else3
 count-of c = c .before .before .before .before
 
-abbrev s1 : tie.Else1 → List ℕ
-s1 c = now (c .before .before .before .before .before .args .s)
+abbrev writes-of : tie.Else5 → tie.Else4
+writes-of c = c .before .before .before .before
 
-abbrev s2 : tie.Else2 → List ℕ
-s2 c = s1 (deed-of c)
+-- the sheet, whose length is a number of the machine
+abbrev sheet : tie.Else1 → List ℕ
+sheet c = now (c .before .before .before .before .before .args .s)
 
-abbrev s3 : tie.Else3 → List ℕ
-s3 c = s2 (pins-of c)
+short : (c : tie.Else1) → length (sheet c) < 2 ^ 64
+short c = let p : tie.After-shared-slice-known = c .before .before .before .before in omega arith
 
-abbrev s4 : tie.Else4 → List ℕ
-s4 c = s3 (count-of c)
+-- ---- what each line holds, and what is left after it
+deed-at : (c : tie.Else1) → Field (deedWord ++ eq) deedByte 1 16 (sheet c) 0 (c .before .before .keyed-line .result .size)
+deed-at c =
+    let r = c .before .before .keyed-line in
+    field (deedWord ++ eq) deedByte 1 16 45 refl refl (omega arith) (sheet c) 0 (r .result) (r .ensures .0) (not-false _ (c .if1 .left))
 
--- the bytes up to the end of each line
-abbrev n1 : tie.Else1 → ℕ
-n1 c = c .before .before .keyed-line .result .size
+abbrev after-deed : tie.Else1 → Rest readSheet readFromPins
+after-deed c = first-passes toFields readDeed (λ _. readFromPins) (sheet c) (deed-at c .here)
 
-abbrev n2 : tie.Else2 → ℕ
-n2 c = c .before .before .keyed-line2 .result .size
+pins-at : (c : tie.Else2) → HexField (pinsWord ++ eq) 2 (sheet (deed-of c)) (after-deed (deed-of c) .at) (c .before .before .keyed-line2 .result .size)
+pins-at c =
+    let r = c .before .before .keyed-line2 in
+    hex-field (pinsWord ++ eq) 2 (sheet (deed-of c)) (after-deed (deed-of c) .at) (r .result) (r .ensures .0) (not-false _ (c .if2 .left))
 
-abbrev n3 : tie.Else3 → ℕ
-n3 c = c .before .before .count-line .result .size
-
-abbrev n4 : tie.Else4 → ℕ
-n4 c = c .before .before .write-lines .result .size
-
-abbrev end2 : tie.Else2 → ℕ
-end2 c = n1 (deed-of c) + n2 c
-
-abbrev end3 : tie.Else3 → ℕ
-end3 c = end2 (pins-of c) + n3 c
-
-abbrev end4 : tie.Else4 → ℕ
-end4 c = end3 (count-of c) + n4 c
+abbrev after-pins : tie.Else2 → Rest readSheet readFromCount
+after-pins c = next-passes readPins (λ _. readFromCount) (after-deed (deed-of c)) (pins-at c .here)
 
 -- the number of writes
 abbrev many : tie.Else3 → ℕ
 many c = c .before .before .count-line .result .count
 
--- what is known there
-deed-at : (c : tie.Else1) → DeedAt (s1 c) (n1 c)
-deed-at c =
-    let r = c .before .before .keyed-line in
-    field (deedWord ++ eq) deedByte 1 16 45 refl refl (omega arith) (s1 c) 0 (r .result) (r .ensures .0) (not-false _ (c .if1 .left))
-
-pins-at : (c : tie.Else2) → PinsAt (s2 c) (n1 (deed-of c)) (n2 c)
-pins-at c =
-    let r = c .before .before .keyed-line2 in
-    record { deed = deed-at (deed-of c); pins = hex-field (pinsWord ++ eq) 2 (s2 c) (n1 (deed-of c)) (r .result) (r .ensures .0) (not-false _ (c .if2 .left)) }
-
-count-at : (c : tie.Else3) → CountAt (s3 c) (n1 (deed-of (pins-of c))) (n2 (pins-of c)) (many c) (n3 c)
+count-at : (c : tie.Else3) → readCount (unread (after-pins (pins-of c))) ≡ got (many c) (c .before .before .count-line .result .size)
 count-at c =
     let r = c .before .before .count-line in
-    let g = counted-got (λ (n : ℕ). n) (readCount (drop (end2 (pins-of c)) (s3 c))) (r .result) (r .ensures .0) (not-false _ (c .if3 .left)) in
-    record { before = pins-at (pins-of c); here = g .1 ∙ ap (λ (k : ℕ). got k (n3 c)) (sym (g .2)) }
+    let g = counted-got (λ (n : ℕ). n) (readCount (unread (after-pins (pins-of c)))) (r .result) (r .ensures .0) (not-false _ (c .if3 .left)) in
+    g .1 ∙ ap (λ (k : ℕ). got k (r .result .size)) (sym (g .2))
 
-writes-at : (c : tie.Else4) → WritesAt (s4 c) (n1 (deed-of (pins-of (count-of c)))) (n2 (pins-of (count-of c))) (many (count-of c)) (n3 (count-of c)) (c .before .before .write-lines .result .writes) (n4 c)
+abbrev after-count : (c : tie.Else3) → Rest readSheet (readFromWrites (many c))
+after-count c = next-passes readCount readFromWrites (after-pins (pins-of c)) (count-at c)
+
+writes-at : (c : tie.Else4) → (l : List ℕ) × (readTimes readAt (many (count-of c)) (unread (after-count (count-of c))) ≡ got l (c .before .before .write-lines .result .size)) × (c .before .before .write-lines .result .writes ≡ padded 64 l)
 writes-at c =
     let r = c .before .before .write-lines in
-    let g = written-got (readTimes readAt (many (count-of c)) (drop (end3 (count-of c)) (s4 c))) (r .result) (r .ensures .0) (not-false _ (c .if4 .left)) in
-    record { before = count-at (count-of c); list = g .0; here = g .1; holds = g .2 }
+    written-got (readTimes readAt (many (count-of c)) (unread (after-count (count-of c)))) (r .result) (r .ensures .0) (not-false _ (c .if4 .left))
+
+abbrev after-writes : tie.Else4 → Rest readSheet readAnnotations
+after-writes c = next-passes (readTimes readAt (many (count-of c))) (λ _. readAnnotations) (after-count (count-of c)) (writes-at c .1)
 
 slice-aggregate-keyed-line : tie.Need-slice-aggregate-keyed-line
 slice-aggregate-keyed-line c = search needs
@@ -111,7 +97,8 @@ returns : tie.Need-returns
 returns c =
     let s = now (c .before .before .before .before .before .before .args .s) in
     let r = c .before .before .before .keyed-line in
-    c .broken .ensures ∙ sym (ap outlineOf (stuck-deed s (not-whole (readDeed s) (r .result) (r .ensures .0) (not-true _ (c .before .if1 .taken)))))
+    let h = not-whole (readDeed s) (r .result) (r .ensures .0) (not-true _ (c .before .if1 .taken)) in
+    c .broken .ensures ∙ sym (ap outlineOf (first-sticks toFields readDeed (λ _. readFromPins) s h))
 
 slice-aggregate-keyed-line-2 : tie.Need-slice-aggregate-keyed-line-2
 slice-aggregate-keyed-line-2 c = search needs
@@ -129,7 +116,8 @@ returns-2 : tie.Need-returns-2
 returns-2 c =
     let p = c .before .before .before .before .before .before in
     let r = c .before .before .before .before .keyed-line2 in
-    c .broken2 .ensures ∙ sym (ap outlineOf (stuck-pins (deed-at p) (hex-stuck (pinsWord ++ eq) 2 (s1 p) (n1 p) (r .result) (r .ensures .0) (not-true _ (c .before .before .if2 .taken)))))
+    let h = hex-stuck (pinsWord ++ eq) 2 (sheet p) (after-deed p .at) (r .result) (r .ensures .0) (not-true _ (c .before .before .if2 .taken)) in
+    c .broken2 .ensures ∙ sym (ap outlineOf (next-sticks readPins (λ _. readFromCount) (after-deed p) h))
 
 add-count-at : tie.Need-add-count-at
 add-count-at c = search needs
@@ -147,16 +135,17 @@ returns-3 : tie.Need-returns-3
 returns-3 c =
     let p = c .before .before .before .before .before .before in
     let r = c .before .before .before .before .count-line in
-    c .broken3 .ensures ∙ sym (ap outlineOf (stuck-count (pins-at p) (counted-stuck (λ (n : ℕ). n) (readCount (drop (end2 p) (s2 p))) (r .result) (r .ensures .0) (not-true _ (c .before .before .if3 .taken)))))
+    let h = counted-stuck (λ (n : ℕ). n) (readCount (unread (after-pins p))) (r .result) (r .ensures .0) (not-true _ (c .before .before .if3 .taken)) in
+    c .broken3 .ensures ∙ sym (ap outlineOf (next-sticks readCount readFromWrites (after-pins p) h))
 
 add-writes-at : tie.Need-add-writes-at
 add-writes-at c = search needs
 
 write-lines-requires : tie.Need-write-lines-requires
-write-lines-requires c κs = (omega (arith, c .before .before .before .count-line .ensures .1), count-most (count-at (c .before)))
+write-lines-requires c κs = (omega (arith, c .before .before .before .count-line .ensures .1), count-most (unread (after-pins (pins-of (c .before)))) (count-at (c .before)))
 
 add-broken-3 : tie.Need-add-broken-3
-add-broken-3 c = omega (arith, short (c .before .before .before .before .before .before .before .before .before .before .before .before .before .before .before .before .before), c .before .before .before .write-lines .ensures .1)
+add-broken-3 c = omega (arith, short (deed-of (pins-of (c .before .before .before .before .before))), c .before .before .before .write-lines .ensures .1)
 
 broken-requires-4 : tie.Need-broken-requires-4
 broken-requires-4 c κs = search needs
@@ -165,16 +154,17 @@ returns-4 : tie.Need-returns-4
 returns-4 c =
     let p = c .before .before .before .before .before .before in
     let r = c .before .before .before .before .write-lines in
-    c .broken4 .ensures ∙ sym (ap outlineOf (stuck-writes (count-at p) (written-stuck (readTimes readAt (many p) (drop (end3 p) (s3 p))) (r .result) (r .ensures .0) (not-true _ (c .before .before .if4 .taken)))))
+    let h = written-stuck (readTimes readAt (many p) (unread (after-count p))) (r .result) (r .ensures .0) (not-true _ (c .before .before .if4 .taken)) in
+    c .broken4 .ensures ∙ sym (ap outlineOf (next-sticks (readTimes readAt (many p)) (λ _. readAnnotations) (after-count p) h))
 
 add-tail : tie.Need-add-tail
-add-tail c = omega (arith, short (c .before .before .before .before .before .before .before .before .before .before .before .before .before .before .before .before .before), c .before .before .before .write-lines .ensures .1)
+add-tail c = omega (arith, short (deed-of (pins-of (count-of (c .before)))), c .before .before .before .write-lines .ensures .1)
 
 annotation-lines-requires : tie.Need-annotation-lines-requires
 annotation-lines-requires c κs = search needs
 
 add-broken-4 : tie.Need-add-broken-4
-add-broken-4 c = omega (arith, short (c .before .before .before .before .before .before .before .before .before .before .before .before .before .before .before .before .before .before .before .before .before), c .before .before .before .annotation-lines .ensures .1)
+add-broken-4 c = omega (arith, short (deed-of (pins-of (count-of (c .before .before .before .before .before)))), c .before .before .before .annotation-lines .ensures .1)
 
 broken-requires-5 : tie.Need-broken-requires-5
 broken-requires-5 c κs = search needs
@@ -183,38 +173,37 @@ returns-5 : tie.Need-returns-5
 returns-5 c =
     let p = c .before .before .before .before .before .before in
     let r = c .before .before .before .before .annotation-lines in
-    c .broken5 .ensures ∙ sym (ap outlineOf (stuck-annotations (writes-at p) (counted-stuck length (readAnnotations (drop (end4 p) (s4 p))) (r .result) (r .ensures .0) (not-true _ (c .before .before .if5 .taken)))))
+    let h = counted-stuck length (readAnnotations (unread (after-writes p))) (r .result) (r .ensures .0) (not-true _ (c .before .before .if5 .taken)) in
+    c .broken5 .ensures ∙ sym (ap outlineOf (rest-read readAnnotations (after-writes p) h))
 
 sub-t24 : tie.Need-sub-t24
-sub-t24 c =
-    let p = count-of (c .before .before .before .before .before .before) in
-    omega (arith, deed-at (deed-of (pins-of p)) .long)
+sub-t24 c = omega (arith, deed-at (deed-of (pins-of (count-of (writes-of (c .before .before))))) .long)
 
 add-hex-value : tie.Need-add-hex-value
 add-hex-value c =
-    let p = pins-of (count-of (c .before .before .before .before .before .before)) in
-    omega (arith, short (c .before .before .before .before .before .before .before .before .before .before .before .before .before .before .before .before .before .before .before .before .before .before), pins-at p .pins .long, p .before .before .keyed-line2 .ensures .1)
+    let p = pins-of (count-of (writes-of (c .before .before))) in
+    omega (arith, short (deed-of p), pins-at p .long, p .before .before .keyed-line2 .ensures .1)
 
 hex-value-requires : tie.Need-hex-value-requires
 hex-value-requires c κs =
-    let p = pins-of (count-of (c .before .before .before .before .before .before)) in
-    let h = pins-at p .pins in
-    ((omega arith, omega (arith, h .long, p .before .before .keyed-line2 .ensures .1)), h .digits)
+    let p = pins-of (count-of (writes-of (c .before .before))) in
+    ((omega arith, omega (arith, pins-at p .long, p .before .before .keyed-line2 .ensures .1)), pins-at p .digits)
 
 cast-t27 : tie.Need-cast-t27
 cast-t27 c =
-    let p = pins-of (count-of (c .before .before .before .before .before .before .before)) in
-    let h = pins-at p .pins in
-    let d = drop (n1 (deed-of p) + 5) (s2 p) in
-    let w = length-take-le 2 d (omega (arith, length-drop (n1 (deed-of p) + 5) (s2 p), h .long, p .before .before .keyed-line2 .ensures .1)) in
-    omega (arith, c .hex-value .ensures, subst (λ (k : ℕ). hexValue (take 2 d) < 16 ^ k) w (value-lt (take 2 d) (h .digits)))
+    let p = pins-of (count-of (writes-of (c .before .before .before))) in
+    let at = after-deed (deed-of p) .at + 5 in
+    let d = drop at (sheet (deed-of p)) in
+    let w = length-take-le 2 d (omega (arith, length-drop at (sheet (deed-of p)), pins-at p .long, p .before .before .keyed-line2 .ensures .1)) in
+    omega (arith, c .hex-value .ensures, subst (λ (k : ℕ). hexValue (take 2 d) < 16 ^ k) w (value-lt (take 2 d) (pins-at p .digits)))
 
 returns-6 : tie.Need-returns-6
 returns-6 c =
-    let p = c .before .before .before .before .before .before .before in
+    let p = writes-of (c .before .before .before) in
+    let q = count-of p in
     let r = c .before .before .before .before .before .annotation-lines in
-    let g = counted-got length (readAnnotations (drop (end4 p) (s4 p))) (r .result) (r .ensures .0) (not-false _ (c .before .before .before .if5 .left)) in
-    outlined (writes-at p) (g .0) (r .result .size) (r .result .count) (g .1) (g .2) (c .hex-value .result) (c .hex-value .ensures)
+    let g = counted-got length (readAnnotations (unread (after-writes p))) (r .result) (r .ensures .0) (not-false _ (c .before .before .before .if5 .left)) in
+    outlined (after-writes p) (g .1) refl (omega (arith, deed-at (deed-of (pins-of q)) .long)) (c .hex-value .ensures) (writes-at p .2) (writes-many (many q) (unread (after-count q)) (writes-at p .1)) (g .2)
 
 pub survey-spec : {M : Type 1} → statement M
 survey-spec =

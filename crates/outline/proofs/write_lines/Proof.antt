@@ -23,9 +23,14 @@ Inv-loop s from count out₀ at₀ i₀ t8 out at i =
 abbrev μ-loop : tie.MeasureT-loop
 μ-loop s from count out₀ at₀ i₀ t8 out at i = count - i
 
--- the line that is read in this turn
-one : (c : tie.Else1 Inv-loop μ-loop) → HexField (atWord ++ eq) 4 (now (c .before .before .before .before .before .before .before .args .s)) (c .before .before .before .before .before .loop .at) (c .before .before .keyed-line .result .size)
-one c = hex-field (atWord ++ eq) 4 (now (c .before .before .before .before .before .before .before .args .s)) (c .before .before .before .before .before .loop .at) (c .before .before .keyed-line .result) (c .before .before .keyed-line .ensures .0) (not-false _ (c .if1 .left))
+-- the turn of the loop, and the line that is read in it
+abbrev turn : tie.Else1 Inv-loop μ-loop → tie.At-loop Inv-loop μ-loop
+turn c = c .before .before .before .before .before
+
+one : (c : tie.Else1 Inv-loop μ-loop) → HexField (atWord ++ eq) 4 (now (turn c .before .before .args .s)) (turn c .loop .at) (c .before .before .keyed-line .result .size)
+one c =
+    let r = c .before .before .keyed-line in
+    hex-field (atWord ++ eq) 4 (now (turn c .before .before .args .s)) (turn c .loop .at) (r .result) (r .ensures .0) (not-false _ (c .if1 .left))
 
 loop-holds : tie.Need-loop-holds Inv-loop μ-loop
 loop-holds c =
@@ -47,8 +52,9 @@ add-t14 c = omega (arith, c .before .before .before .keyed-line .ensures .1)
 
 returns : tie.Need-returns Inv-loop μ-loop
 returns c =
-    let a = c .before .before .before .before .before .before .before .before .args in
-    let l = c .before .before .before .before .before .before .loop in
+    let t = c .before .before .before .before .before .before in
+    let a = t .before .before .args in
+    let l = t .loop in
     let r = c .before .before .before .keyed-line in
     (filled-stuck (l .out) (l .i) (l .at - a .from) (readTimes readAt (a .count) (drop (a .from) (now (a .s)))) (readTimes readAt (a .count - l .i) (drop (l .at) (now (a .s)))) (l .inv .3) (r .result .size) (times-stuck readAt (now (a .s)) (l .at) (a .count - l .i) (r .result .size) (omega arith) (hex-stuck (atWord ++ eq) 4 (now (a .s)) (l .at) (r .result) (r .ensures .0) (not-true _ (c .before .if1 .taken)))), omega (arith, r .ensures .1))
 
@@ -79,8 +85,9 @@ loop-less c = omega arith
 
 loop-again : tie.Need-loop-again Inv-loop μ-loop
 loop-again c =
-    let a = c .before .before .before .before .before .before .before .before .before .args in
-    let l = c .before .before .before .before .before .before .before .loop in
+    let t = turn (c .before .before) in
+    let a = t .before .before .args in
+    let l = t .loop in
     let r = c .before .before .before .before .keyed-line in
     let n = r .result .size in
     let f = one (c .before .before) in

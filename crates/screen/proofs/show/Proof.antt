@@ -1,21 +1,32 @@
 -- `screen::show` meets its contract.
+use mathlib.Core.Path.{_≡_, sym, _∙_}
 use denote.Ref.{now}
-use Rattle.screen.proofs.Shows.{leaves-done, leaves-refused}
+use Rattle.answer.specs.Told.{toldOf}
+use Rattle.screen.proofs.Shows.{length-refused}
 use borrow.Author.Needs.{needs}
 use Rattle.screen.proofs.show.Statement.{statement}
 use Rattle.screen.proofs.show.Tie as tie
 
-show-answer-requires : tie.Need-show-answer-requires
-show-answer-requires c κs = search needs
+-- where the call begins, and that past the test no length is refused
+abbrev start-of : tie.After-number → tie.Start
+start-of c = c .before .before .before .before .before .before
 
-enum-told : tie.Need-enum-told
-enum-told c = search needs
+passed : (c : tie.Else1) → toldOf (c .before .before .length-answer .result) .number ≡ 0
+passed c = sym (c .before .number .ensures) ∙ c .if1 .left
 
-fetch-requires : tie.Need-fetch-requires
-fetch-requires c κs = search needs
+length-answer-requires : tie.Need-length-answer-requires
+length-answer-requires c κs = search needs
 
-draw-requires : tie.Need-draw-requires
-draw-requires c κs = search needs
+number-requires : tie.Need-number-requires
+number-requires c κs = search needs
+
+returns : tie.Need-returns
+returns c =
+    let a = start-of (c .before) .args in
+    length-refused (a .settings) (now (a .image)) (now (a .font)) (now (a .strip)) (now (a .frame)) (c .before .before .length-answer .ensures) (λ z. c .if1 .taken (c .before .number .ensures ∙ z))
+
+render-requires : tie.Need-render-requires
+render-requires c κs = rw (c .before .before .before .before .length-answer .ensures) at (passed (c .before .before))
 
 same-length : tie.Need-same-length
 same-length c = search needs
@@ -23,27 +34,17 @@ same-length c = search needs
 same-length-2 : tie.Need-same-length-2
 same-length-2 c = search needs
 
-returns : tie.Need-returns
-returns c = (
-  c .before .before .before .before .before .before .before .before .before .before .before .show-answer .ensures,
-  leaves-done (c .before .before .before .before .before .before .before .before .before .before .before .before .before .before .before .before .args .settings) (now (c .before .before .before .before .before .before .before .before .before .before .before .before .before .before .before .before .args .image)) (now (c .before .before .before .before .before .before .before .before .before .before .before .before .before .before .before .before .args .font)) (now (c .before .before .before .before .before .before .before .before .before .before .before .before .before .before .before .before .args .strip)) (now (c .before .before .before .before .before .before .before .before .before .before .before .before .before .before .before .before .args .frame)) (c .before .before .before .before .before .before .before .before .before .before .before .show-answer .result) (c .before .before .before .before .before .before .before .before .before .before .before .show-answer .ensures) (c .before .before .before .before .before .before .before .before .before .before .match .keys1) (c .before .before .before .before .before .before .before .fetch .ensures .1) (c .before .before .draw .ensures .1),
-)
-
 returns-2 : tie.Need-returns-2
-returns-2 c = (
-  c .before .show-answer .ensures,
-  leaves-refused (c .before .before .before .before .before .before .args .settings) (now (c .before .before .before .before .before .before .args .image)) (now (c .before .before .before .before .before .before .args .font)) (now (c .before .before .before .before .before .before .args .strip)) (now (c .before .before .before .before .before .before .args .frame)) (c .before .show-answer .result) (c .before .show-answer .ensures) (c .match .keys2),
-)
+returns-2 c = search needs
 
 pub show-spec : {M : Type 1} → statement M
 show-spec =
     tie.close
     (tie.spec
-    show-answer-requires
-    enum-told
-    fetch-requires
-    draw-requires
+    length-answer-requires
+    number-requires
+    returns
+    render-requires
     same-length
     same-length-2
-    returns
     returns-2)

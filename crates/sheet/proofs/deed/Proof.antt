@@ -8,7 +8,7 @@ use lib.ListN.{length}
 use denote.Ref.{now}
 use Rattle.paper.specs.Choose.{choose}
 use Rattle.grammar.specs.Sheet.{Fields}
-use Rattle.grammar.specs.Read.{readLines, readSheet}
+use Rattle.grammar.specs.Read.{readSheet}
 use Rattle.grammar.specs.Given.{fieldsIn, deedFrom}
 use Rattle.paper.proofs.Parts.{part-move}
 use Rattle.grammar.proofs.Parts.{deed-at, deed-within}
@@ -18,7 +18,7 @@ use Rattle.sheet.proofs.deed.Tie as tie
 
 -- the sheet is whole, and the deed lies within it
 found : (c : tie.After-struct-known) → WholeGiven (readSheet (now (c .before .before .before .before .args .sheet))) (c .before .before .survey .result)
-found c = whole-given (readLines (now (c .before .before .before .before .args .sheet))) (c .before .before .survey .result) (c .before .before .survey .ensures) (c .before .if1 .taken)
+found c = whole-given (readSheet (now (c .before .before .before .before .args .sheet))) (c .before .before .survey .result) (c .before .before .survey .ensures) (c .before .if1 .taken)
 
 inside : (c : tie.After-struct-known) → 5 + c .before .before .survey .result .deed ≤ length (now (c .before .before .before .before .args .sheet))
 inside c = let g = found c in omega (arith, deed-within (now (c .before .before .before .before .args .sheet)) (g .is-got), g .deed)
@@ -51,8 +51,8 @@ slice-aggregate-result c = search needs
 returns-2 : tie.Need-returns-2
 returns-2 c =
     let s = now (c .before .before .before .before .args .sheet) in
-    let g = broken-given (readLines (now (c .before .before .before .before .args .sheet))) (c .before .before .survey .result) (c .before .before .survey .ensures) (c .before .if1 .left) in
-    part-move 0 0 (deedFrom s) (length (fieldsIn s .deed)) (ap (λ (t : Bool). choose t 5 0) (g .0)) (sym (ap (λ (f : Fields). length (f .deed)) (g .2))) (record { bytes = refl; block = refl; offset = omega arith })
+    let g = broken-given (readSheet s) (c .before .before .survey .result) (c .before .before .survey .ensures) (c .before .if1 .left) in
+    part-move 0 0 (deedFrom s) (length (fieldsIn s .deed)) (ap (λ (t : Bool). choose t 5 0) (g .not-got)) (sym (ap (λ (f : Fields). length (f .deed)) (g .no-fields))) (record { bytes = refl; block = refl; offset = omega arith })
 
 pub deed-spec : {M : Type 1} → statement M
 deed-spec =

@@ -8,7 +8,7 @@ use lib.ListN.{length}
 use denote.Ref.{now}
 use Rattle.paper.specs.Choose.{choose}
 use Rattle.grammar.specs.Sheet.{Fields, front, lines}
-use Rattle.grammar.specs.Read.{readLines, readSheet}
+use Rattle.grammar.specs.Read.{readSheet}
 use Rattle.grammar.specs.Given.{fieldsIn, tailFrom}
 use Rattle.paper.proofs.Parts.{part-move}
 use Rattle.grammar.proofs.Parts.{tail-at, tail-size}
@@ -18,7 +18,7 @@ use Rattle.sheet.proofs.tail.Tie as tie
 
 -- the sheet is whole, and the annotation lines are its end
 found : (c : tie.Then1) → WholeGiven (readSheet (now (c .before .before .before .args .sheet))) (c .before .survey .result)
-found c = whole-given (readLines (now (c .before .before .before .args .sheet))) (c .before .survey .result) (c .before .survey .ensures) (c .if1 .taken)
+found c = whole-given (readSheet (now (c .before .before .before .args .sheet))) (c .before .survey .result) (c .before .survey .ensures) (c .if1 .taken)
 
 inside : (c : tie.Then1) → c .before .survey .result .tail ≤ length (now (c .before .before .before .args .sheet))
 inside c = let g = found c in omega (arith, tail-size (now (c .before .before .before .args .sheet)) (g .is-got), tail-at (now (c .before .before .before .args .sheet)) (g .is-got), g .tail)
@@ -47,8 +47,8 @@ slice-aggregate-result c = search needs
 returns-2 : tie.Need-returns-2
 returns-2 c =
     let s = now (c .before .before .before .before .args .sheet) in
-    let g = broken-given (readLines (now (c .before .before .before .before .args .sheet))) (c .before .before .survey .result) (c .before .before .survey .ensures) (c .before .if1 .left) in
-    part-move 0 0 (tailFrom s) (length (lines (fieldsIn s .annotations))) (ap (λ (t : Bool). choose t (length (front (fieldsIn s))) 0) (g .0)) (sym (ap (λ (f : Fields). length (lines (f .annotations))) (g .2))) (record { bytes = refl; block = refl; offset = omega arith })
+    let g = broken-given (readSheet s) (c .before .before .survey .result) (c .before .before .survey .ensures) (c .before .if1 .left) in
+    part-move 0 0 (tailFrom s) (length (lines (fieldsIn s .annotations))) (ap (λ (t : Bool). choose t (length (front (fieldsIn s))) 0) (g .not-got)) (sym (ap (λ (f : Fields). length (lines (f .annotations))) (g .no-fields))) (record { bytes = refl; block = refl; offset = omega arith })
 
 pub tail-spec : {M : Type 1} → statement M
 tail-spec =

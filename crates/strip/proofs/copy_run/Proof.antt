@@ -16,7 +16,9 @@ same-length : tie.Need-same-length
 same-length c = search needs
 
 returns : tie.Need-returns
-returns c = by (λ k h l. c .before .before .before .before .before .run-at .ensures .is (k - c .before .before .before .before .before .before .before .before .args .at) zero-le (omega arith)) (c .before .before .put-run .ensures)
+returns c =
+    let p = c .before .before .before .before .before in
+    by (λ k h l. p .run-at .ensures .is (k - p .before .before .before .args .at) zero-le (omega arith)) (c .before .before .put-run .ensures)
 
 pub copy-run-spec : {M : Type 1} → statement M
 copy-run-spec = tie.close (tie.spec run-at-requires put-run-requires same-length returns)

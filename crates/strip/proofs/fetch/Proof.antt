@@ -1,35 +1,46 @@
 -- `strip::fetch` meets its contract.
+use mathlib.Core.Path.{_≡_, sym, _∙_}
 use denote.Ref.{now}
-use Rattle.strip.proofs.Fetches.{accepted, done-number, leaves-done, leaves-refused}
+use lib.ListN.{length}
+use Rattle.answer.specs.Told.{toldOf}
+use Rattle.strip.proofs.Fetches.{lengths-fit, length-refused, all-fetched}
 use borrow.Author.Needs.{needs}
 use Rattle.strip.proofs.fetch.Statement.{statement}
 use Rattle.strip.proofs.fetch.Tie as tie
 
-fetch-answer-requires : tie.Need-fetch-answer-requires
-fetch-answer-requires c κs = search needs
+-- where the call begins, and that past the test no length is refused
+abbrev start-of : tie.After-number → tie.Start
+start-of c = c .before .before .before .before
 
-enum-told : tie.Need-enum-told
-enum-told c = search needs
+passed : (c : tie.Else1) → toldOf (c .before .before .length-answer .result) .number ≡ 0
+passed c = sym (c .before .number .ensures) ∙ c .if1 .left
+
+length-answer-requires : tie.Need-length-answer-requires
+length-answer-requires c κs = search needs
+
+number-requires : tie.Need-number-requires
+number-requires c κs = search needs
+
+returns : tie.Need-returns
+returns c =
+    let b = start-of (c .before) in
+    length-refused (b .args .settings) (now (b .args .image)) (now (b .args .strip)) (c .before .before .length-answer .ensures) (λ z. c .if1 .taken (c .before .number .ensures ∙ z))
 
 lines-requires : tie.Need-lines-requires
-lines-requires c κs = accepted _ _ _ (done-number _ (now (c .before .before .before .before .before .before .args .image)) (now (c .before .before .before .before .before .before .args .strip)) (c .before .before .before .fetch-answer .result) (c .before .before .before .fetch-answer .ensures) (c .before .before .match .keys1))
+lines-requires c κs =
+    let b = start-of (c .before .before) in
+    lengths-fit (b .args .settings) (length (now (b .args .image))) (length (now (b .args .strip))) (rw (c .before .before .before .length-answer .ensures) at (passed (c .before)))
 
 same-length : tie.Need-same-length
 same-length c = search needs
 
-returns : tie.Need-returns
-returns c = (
-  c .before .before .before .before .before .before .fetch-answer .ensures,
-  leaves-done _ (now (c .before .before .before .before .before .before .before .before .before .args .image)) (now (c .before .before .before .before .before .before .before .before .before .args .strip)) (c .before .before .before .before .before .before .fetch-answer .result) (c .before .before .before .before .before .before .fetch-answer .ensures) (c .before .before .before .before .before .match .keys1) (c .before .before .lines .ensures),
-)
-
 returns-2 : tie.Need-returns-2
-returns-2 c = (
-  c .before .fetch-answer .ensures,
-  leaves-refused _ (now (c .before .before .before .before .args .image)) (now (c .before .before .before .before .args .strip)) (c .before .fetch-answer .result) (c .before .fetch-answer .ensures) (c .match .keys2),
-)
+returns-2 c =
+    let e = c .before .before .before .before in
+    let b = start-of (e .before) in
+    all-fetched (b .args .settings) (now (b .args .image)) (now (b .args .strip)) (e .before .before .length-answer .ensures) (passed e) (c .before .before .lines .ensures)
 
 pub fetch-spec : {M : Type 1} → statement M
 fetch-spec =
     tie.close
-    (tie.spec fetch-answer-requires enum-told lines-requires same-length returns returns-2)
+    (tie.spec length-answer-requires number-requires returns lines-requires same-length returns-2)

@@ -54,14 +54,14 @@ loop-less : tie.Need-loop-less Inv-loop μ-loop
 loop-less c = omega arith
 
 loop-again : tie.Need-loop-again Inv-loop μ-loop
-loop-again c = (
-  omega arith,
-  run-more _ _ (c .before .before .before .before .before .before .before .before .before .before .pre .1) _ (c .before .before .before .before .before .before .before .loop .inv .1) (c .pass .ensures),
-  line-more (c .before .before .before .before .before .before .before .before .before .before .args .settings) (now (c .before .before .before .before .before .before .before .before .before .before .args .image)) (c .before .before .before .before .before .before .before .before .before .before .pre .0) (c .before .before .before .before .before .before .before .before .before .before .args .from) (c .before .before .before .before .before .before .before .before .before .before .pre .1) (c .before .before .before .before .before .before .before .before .before .before .args .at) (c .before .before .before .before .before .before .before .loop .n)
-      (rw (← c .before .before .before .before .before .before .before .loop .inv .1) (c .before .before .before .before .before .place .ensures))
-      (c .before .before .before .before .before .before .before .loop .inv .2)
-      (c .before .before .before .copy-run .ensures),
-)
+loop-again c =
+    let t = c .before .before .before .before .before .before .before in
+    let s = t .before .before .before in (
+      omega arith,
+      run-more _ _ (s .pre .1) _ (t .loop .inv .1) (c .pass .ensures),
+      line-more (s .args .settings) (now (s .args .image)) (s .pre .0) (s .args .from) (s .pre .1) (s .args .at) (t .loop .n)
+          (rw (← t .loop .inv .1) (c .before .before .before .before .before .place .ensures)) (t .loop .inv .2) (c .before .before .before .copy-run .ensures),
+    )
 
 same-length : tie.Need-same-length Inv-loop μ-loop
 same-length c = c .before .loop .inv .2 .long

@@ -7,6 +7,7 @@ use borrow.Author.Needs.{needs}
 use denote.Ref.{now}
 use Rattle.paper.specs.Written.{Filled}
 use Rattle.paper.proofs.Fills.{none, upto}
+use Rattle.settings.specs.declared.Settings.{Settings}
 use Rattle.settings.specs.Modes.{width}
 use Rattle.counter.specs.Counter.{lineStart}
 use Rattle.counter.proofs.Walks.{lineStart-none}
@@ -23,9 +24,12 @@ Inv-loop settings image strip₀ wide runs counter₀ n₀ strip counter n =
 abbrev μ-loop : tie.MeasureT-loop
 μ-loop settings image strip₀ wide runs counter₀ n₀ strip counter n = 192 - n
 
--- the line of this turn ends within the frame
-within : (c : tie.In-loop Inv-loop μ-loop) → c .before .loop .n * width (c .before .before .before .before .before .before .args .settings .look) + width (c .before .before .before .before .before .before .args .settings .look) ≤ 192 * width (c .before .before .before .before .before .before .args .settings .look)
-within c = line-within (c .before .before .before .before .before .before .args .settings) (now (c .before .before .before .before .before .before .args .image)) (c .before .loop .n) (c .loop-test .taken)
+-- the settings, and that the line of this turn ends within the frame
+abbrev settings : tie.In-loop Inv-loop μ-loop → Settings
+settings c = c .before .before .before .before .before .before .args .settings
+
+within : (c : tie.In-loop Inv-loop μ-loop) → c .before .loop .n * width (settings c .look) + width (settings c .look) ≤ 192 * width (settings c .look)
+within c = line-within (settings c) (now (c .before .before .before .before .before .before .args .image)) (c .before .loop .n) (c .loop-test .taken)
 
 width-requires : tie.Need-width-requires Inv-loop μ-loop
 width-requires c κs = search needs
@@ -40,12 +44,16 @@ mul-line : tie.Need-mul-line Inv-loop μ-loop
 mul-line c = rw (c .before .before .before .before .width .ensures) (omega (arith, within (c .before)))
 
 line-requires : tie.Need-line-requires Inv-loop μ-loop
-line-requires c κs = rw (c .before .before .before .before .width .ensures) (
-  c .before .before .before .before .before .before .before .pre .0,
-  rw (c .before .before .loop .inv .1) (line-aligned _ _),
-  whole-runs (c .before .before .before .before .before .before .before .args .settings) .1,
-  omega (arith, whole-runs (c .before .before .before .before .before .before .before .args .settings) .0, within (c .before), c .before .before .loop .inv .2 .long, c .before .before .before .before .before .before .before .pre .1),
-)
+line-requires c κs =
+    let p = c .before in
+    let s = p .before .before .before .before .before .before .pre in
+    let l = p .before .loop .inv in
+    rw (p .before .before .before .width .ensures) (
+      s .0,
+      rw (l .1) (line-aligned _ _),
+      whole-runs (settings p) .1,
+      omega (arith, whole-runs (settings p) .0, within p, l .2 .long, s .1),
+    )
 
 line-end-requires : tie.Need-line-end-requires Inv-loop μ-loop
 line-end-requires c κs = search needs
@@ -57,11 +65,12 @@ loop-less : tie.Need-loop-less Inv-loop μ-loop
 loop-less c = omega arith
 
 loop-again : tie.Need-loop-again Inv-loop μ-loop
-loop-again c = (
-  omega arith,
-  start-more _ (now (c .before .before .before .before .before .before .before .before .before .before .before .args .image)) _ (c .before .before .before .before .before .before .before .before .width .ensures) (c .before .before .before .before .before .before .loop .inv .1) (c .before .before .before .line .ensures .0) (c .line-end .ensures),
-  frame-more _ (now (c .before .before .before .before .before .before .before .before .before .before .before .args .image)) _ (c .before .before .before .before .before .before .before .before .width .ensures) (c .before .before .before .before .before .before .loop .inv .1) (c .before .before .before .before .before .before .loop .inv .2) (c .before .before .before .line .ensures .1),
-)
+loop-again c =
+    let t = c .before .before .before .before .before .before in
+    let w = t .before .before .width .ensures in
+    let image = now (t .before .before .before .before .before .args .image) in
+    let line = c .before .before .before .line .ensures in
+    (omega arith, start-more _ image _ w (t .loop .inv .1) (line .0) (c .line-end .ensures), frame-more _ image _ w (t .loop .inv .1) (t .loop .inv .2) (line .1))
 
 same-length : tie.Need-same-length Inv-loop μ-loop
 same-length c = c .before .loop .inv .2 .long

@@ -5,10 +5,10 @@ use Rattle.trips.proofs.modes.Statement.{statement}
 use Rattle.trips.proofs.modes.Tie as tie
 
 abbrev Inv-loop : tie.InvT-loop
-Inv-loop image font mode₀ mode = mode ≤ 8
+Inv-loop image font word₀ word = word ≤ 16392
 
 abbrev μ-loop : tie.MeasureT-loop
-μ-loop image font mode₀ mode = 8 - mode
+μ-loop image font word₀ word = 16392 - word
 
 loop-holds : tie.Need-loop-holds Inv-loop μ-loop
 loop-holds c = search needs
@@ -19,8 +19,8 @@ compared-requires c κs = search needs
 compared-requires-2 : tie.Need-compared-requires-2 Inv-loop μ-loop
 compared-requires-2 c κs = search needs
 
-add-mode : tie.Need-add-mode Inv-loop μ-loop
-add-mode c = search needs
+add-word : tie.Need-add-word Inv-loop μ-loop
+add-word c = search needs
 
 loop-less : tie.Need-loop-less Inv-loop μ-loop
 loop-less c = search needs
@@ -40,7 +40,7 @@ modes-spec =
     loop-holds
     compared-requires
     compared-requires-2
-    add-mode
+    add-word
     loop-less
     loop-again
     returns)

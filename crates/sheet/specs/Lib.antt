@@ -1,0 +1,2 @@
+-- What the operations of the sheet promise.
+pub mod Held
