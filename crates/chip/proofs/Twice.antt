@@ -1,13 +1,16 @@
 -- The bytes after one crossing and after two: each byte by its address, and doing it twice gives the bytes back.
-use Prim.Native.Nat.{ℕ, _*_, _/_, _^_, _<_}
-use mathlib.Core.Path.{_≡_, sym, ap, _∙_}
+use Prim.Native.Nat.{ℕ, _*_, _/_, _^_, _<_, _≤_}
+use mathlib.Core.Path.{_≡_, refl, sym, ap, _∙_}
 use mathlib.Core.Bool.{true}
 use mathlib.Core.List.{List}
 use native.Mathlib.Omega.{arith}
+use borrow.Author.Tests.{le-ltb}
 use lib.ListN.{length, getD, take}
 use lib.Seq.{length-take-le, getD-take, ext-getD}
+use Rattle.paper.specs.Told.{done}
+use Rattle.paper.proofs.Orders.{done-when}
 use Rattle.paper.proofs.Fills.{written-fills, length-written}
-use Rattle.chip.specs.Chip.{chipFits, chipTold, chipAfter, chipPlace, crossedByte}
+use Rattle.chip.specs.Chip.{chipFits, chipOrder, chipTold, chipAfter, chipPlace, crossedByte}
 use Rattle.chip.proofs.Places.{whole-times, own-inverse, stays-in}
 use Rattle.chip.proofs.Shapes.{shape}
 use Rattle.chip.proofs.Answers.{accepted, room-done}
@@ -37,6 +40,18 @@ module _ (k : ℕ) (lent room : List ℕ) (d : chipTold k (length lent) (length 
   after-length : length (chipAfter k lent room) ≡ length room
   after-length = rw (room-done k lent room d) (length-written (crossedByte (2 ^ k) lent) (length lent) room)
 
+-- what was crossed has the length of what was lent, so crossing it once more is done where there is room
+pub crossed-long : (k : ℕ) (lent room : List ℕ) → chipTold k (length lent) (length room) .number ≡ 0 → length (take (length lent) (chipAfter k lent room)) ≡ length lent
+crossed-long k lent room d = length-take-le (length lent) (chipAfter k lent room) (omega (arith, accepted k (length lent) (length room) d .1, after-length k lent room d))
+
+pub done-again : (k : ℕ) (lent room : List ℕ) → chipTold k (length lent) (length room) .number ≡ 0
+    → (lent′ room′ : List ℕ) → lent′ ≡ take (length lent) (chipAfter k lent room) → length lent ≤ length room′ → chipTold k (length lent′) (length room′) .number ≡ 0
+unfolding chipTold
+done-again k lent room d lent′ room′ e long =
+    let same : length lent′ ≡ length lent = ap (λ (x : List ℕ). length x) e ∙ crossed-long k lent room d in
+    done-when (done 0) refl (chipOrder k (length lent′) (length room′)) tt .1
+    (rw (same, accepted k (length lent) (length room) d .0), (le-ltb (length room′) (length lent′) (omega arith), tt))
+
 -- what was crossed, crossed once more, is what was lent
 pub twice : (k : ℕ) (lent room : List ℕ) → chipTold k (length lent) (length room) .number ≡ 0
     → (lent′ room′ : List ℕ) → lent′ ≡ take (length lent) (chipAfter k lent room) → chipTold k (length lent′) (length room′) .number ≡ 0
@@ -46,7 +61,7 @@ twice k lent room d lent′ room′ e d′ =
     let out = chipAfter k lent room in
     let out′ = chipAfter k lent′ room′ in
     let f = accepted k n (length room) d in
-    let long : length lent′ ≡ n = ap length e ∙ length-take-le n out (omega (arith, f .1, after-length k lent room d)) in
+    let long : length lent′ ≡ n = ap length e ∙ crossed-long k lent room d in
     let long′ : length (take n out′) ≡ n = length-take-le n out′ (omega (arith, long, accepted k (length lent′) (length room′) d′ .1, after-length k lent′ room′ d′)) in
     ext-getD 0 (take n out′) lent long′ (λ a l.
     let below : a < n = omega (arith, l, long′) in

@@ -1,6 +1,6 @@
 -- CR 4. "Give both directions, bank by bank into a second buffer [..]. Show that no place is lost or used twice and that doing it twice
 -- gives the image back, once over k."
-use Prim.Native.Nat.{ℕ, _<_}
+use Prim.Native.Nat.{ℕ, _<_, _≤_}
 use mathlib.Core.Path.{_≡_, sym, ap, _∙_}
 use mathlib.Core.Bool.{true}
 use mathlib.Core.List.{List}
@@ -11,7 +11,7 @@ use Rattle.paper.specs.Told.{Told}
 use Rattle.answer.specs.declared.Answer.{Answer}
 use Rattle.answer.specs.Told.{toldOf}
 use Rattle.chip.specs.Chip.{chipFits, chipTold, chipAfter, chipPlace}
-use Rattle.chip.proofs.Twice.{keeps, inverse, byte-from, byte-to, twice}
+use Rattle.chip.proofs.Twice.{keeps, inverse, byte-from, byte-to, done-again, twice}
 use Rattle.claims.proofs.Calls.{Lent, ToImage, ToChip}
 
 -- no place is lost: each place of what is lent is that of an address in it, which is where the map leads from the place
@@ -32,21 +32,33 @@ pub chip-byte : (κs : Lfts 2) (k : ℕ) (image chip : Lent) (z : Answer) (out :
     → (a : ℕ) → a < length (now image) → getD out (chipPlace k a) 0 ≡ getD (now image) a 0
 chip-byte κs k image chip z out p d a l = ap (λ (x : List ℕ). getD x (chipPlace k a) 0) (p .1) ∙ byte-to k (now image) (now chip) (ap (λ (t : Told). t .number) (sym (p .0)) ∙ d) a l
 
--- doing it twice: two calls, both done, the second of what the first has written
+-- doing it twice: two calls, the second of what the first has written and with room enough. The second is then done too
 module _ (k : ℕ) (lent room lent′ room′ : Lent) (z z′ : Answer) (out out′ : List ℕ) where
-  both-ways : (toldOf z ≡ chipTold k (length (now lent)) (length (now room))) × (out ≡ chipAfter k (now lent) (now room))
+  again : (toldOf z ≡ chipTold k (length (now lent)) (length (now room))) × (out ≡ chipAfter k (now lent) (now room))
       → (toldOf z′ ≡ chipTold k (length (now lent′)) (length (now room′))) × (out′ ≡ chipAfter k (now lent′) (now room′))
-      → toldOf z .number ≡ 0 → toldOf z′ .number ≡ 0 → now lent′ ≡ take (length (now lent)) out → take (length (now lent)) out′ ≡ now lent
-  both-ways p q d d′ e =
-      ap (take (length (now lent))) (q .1)
-      ∙ twice k (now lent) (now room) (ap (λ (t : Told). t .number) (sym (p .0)) ∙ d) (now lent′) (now room′) (e ∙ ap (take (length (now lent))) (p .1)) (ap (λ (t : Told). t .number) (sym (q .0)) ∙ d′)
+      → toldOf z .number ≡ 0 → now lent′ ≡ take (length (now lent)) out → length (now lent) ≤ length (now room′)
+      → (toldOf z′ .number ≡ 0) × (take (length (now lent)) out′ ≡ now lent)
+  again p q d e long =
+      let first = ap (λ (t : Told). t .number) (sym (p .0)) ∙ d in
+      let taken = e ∙ ap (take (length (now lent))) (p .1) in
+      let second = done-again k (now lent) (now room) first (now lent′) (now room′) taken long in
+      (ap (λ (t : Told). t .number) (q .0) ∙ second, ap (take (length (now lent))) (q .1) ∙ twice k (now lent) (now room) first (now lent′) (now room′) taken second)
 
   -- chips to an image and back
   pub chip-again : (κs κs′ : Lfts 2) → ToImage κs k lent room z out → ToChip κs′ k lent′ room′ z′ out′
-      → toldOf z .number ≡ 0 → toldOf z′ .number ≡ 0 → now lent′ ≡ take (length (now lent)) out → take (length (now lent)) out′ ≡ now lent
-  chip-again κs κs′ p q = both-ways p q
+      → toldOf z .number ≡ 0 → now lent′ ≡ take (length (now lent)) out → length (now lent) ≤ length (now room′) → (toldOf z′ .number ≡ 0) × (take (length (now lent)) out′ ≡ now lent)
+  chip-again κs κs′ p q = again p q
 
   -- an image to the chips and back
   pub image-again : (κs κs′ : Lfts 2) → ToChip κs k lent room z out → ToImage κs′ k lent′ room′ z′ out′
-      → toldOf z .number ≡ 0 → toldOf z′ .number ≡ 0 → now lent′ ≡ take (length (now lent)) out → take (length (now lent)) out′ ≡ now lent
-  image-again κs κs′ p q = both-ways p q
+      → toldOf z .number ≡ 0 → now lent′ ≡ take (length (now lent)) out → length (now lent) ≤ length (now room′) → (toldOf z′ .number ≡ 0) × (take (length (now lent)) out′ ≡ now lent)
+  image-again κs κs′ p q = again p q
+
+  -- the same direction twice
+  pub to-image-twice : (κs κs′ : Lfts 2) → ToImage κs k lent room z out → ToImage κs′ k lent′ room′ z′ out′
+      → toldOf z .number ≡ 0 → now lent′ ≡ take (length (now lent)) out → length (now lent) ≤ length (now room′) → (toldOf z′ .number ≡ 0) × (take (length (now lent)) out′ ≡ now lent)
+  to-image-twice κs κs′ p q = again p q
+
+  pub to-chip-twice : (κs κs′ : Lfts 2) → ToChip κs k lent room z out → ToChip κs′ k lent′ room′ z′ out′
+      → toldOf z .number ≡ 0 → now lent′ ≡ take (length (now lent)) out → length (now lent) ≤ length (now room′) → (toldOf z′ .number ≡ 0) × (take (length (now lent)) out′ ≡ now lent)
+  to-chip-twice κs κs′ p q = again p q

@@ -4,7 +4,7 @@
 use Prim.Native.Nat.{ℕ, _^_, _≤_, _<_}
 use mathlib.Core.Path.{_≡_, refl, ap, _∙_}
 use mathlib.Core.Bool.{Bool, true, false}
-use mathlib.Core.List.{List}
+use mathlib.Core.List.{List, [], _++_}
 use mathlib.Core.Logic.{_↔_}
 use contract.Lifetimes.{Lfts}
 use denote.Ref.{now}
@@ -38,7 +38,16 @@ use Rattle.chip.proofs.Answers.{accepted as chip-accepted, room-done, room-refu
 use Rattle.intake.specs.declared.Intake.{Intake}
 use Rattle.intake.specs.Intake.{intakeOrder, intakeTold, noSettings}
 use Rattle.intake.proofs.Judges.{given-refused}
-use Rattle.claims.proofs.Calls.{Lent, Plays, Fetches, Draws, Shows, ReadsBack, ToImage, ToChip, TakesIn}
+use Rattle.grammar.specs.Sheet.{Fields, lines}
+use Rattle.grammar.specs.Given.{padded, fieldsIn, noFields, sheetOrder, lineAt}
+use Rattle.grammar.proofs.Parts.{sheet-told, refused-fields}
+use Rattle.sheet.specs.declared.Sheet.{Sheet}
+use Rattle.sheet.proofs.Annotations.{Reads, Deed, Line, Tail, deed-holds, line-holds, tail-holds}
+use Rattle.wording.specs.declared.Text.{Text}
+use Rattle.wording.specs.Words.{held}
+use Rattle.wording.specs.Report.{statusLine}
+use Rattle.wording.proofs.Fits.{holds-report, begins-with-status}
+use Rattle.claims.proofs.Calls.{Lent, Plays, Fetches, Draws, Shows, ReadsBack, ToImage, ToChip, TakesIn, Reports}
 
 -- what is told is what the order says: each number exactly when its condition holds and none earlier does, done exactly when none does
 pub record Ordered (told : Told) (order : List Check) (value : ℕ) : Type 0 where
@@ -155,3 +164,38 @@ settings-demand κs sheet z p = (
   ordered (intakeOrder (now sheet)) 0 tt (p .told),
   λ no. p .settings ∙ given-refused (now sheet) (λ e. no (ap (λ (t : Told). t .number) (p .told) ∙ e)),
 )
+
+-- a sheet alone: 11
+pub read-demand : (κs : Lfts 1) (sheet : Lent) (z : Sheet) → Reads κs sheet z → Ordered (toldOf (z .answer)) (sheetOrder (now sheet)) 0
+read-demand κs sheet z p = ordered (sheetOrder (now sheet)) 0 tt (p .told ∙ sheet-told (now sheet))
+
+-- a refused sheet yields an empty deed, pins 0, no writes and 0 annotations, and its parts are empty
+pub record Nothing (sheet : Lent) (z : Sheet) : Type 0 where
+  pub pins : z .pins ≡ 0
+  pub writes : z .writes ≡ padded 64 []
+  pub count : z .«write_count» ≡ 0
+  pub annotations : z .annotations ≡ 0
+  pub deed : (κs : Lfts 1) (r : Lent) → Deed κs sheet r → now r ≡ []
+  pub line : (κs : Lfts 1) (n : ℕ) (r : Lent) → Line κs sheet n r → now r ≡ []
+  pub tail : (κs : Lfts 1) (r : Lent) → Tail κs sheet r → now r ≡ []
+
+pub refused-yields-nothing : (κs : Lfts 1) (sheet : Lent) (z : Sheet) → Reads κs sheet z → (toldOf (z .answer) .number ≡ 0 → ⊥) → Nothing sheet z
+refused-yields-nothing κs sheet z p refused =
+    let e : fieldsIn (now sheet) ≡ noFields = refused-fields (now sheet) (λ d. refused (ap (λ (t : Told). t .number) (p .told) ∙ d)) in
+    record {
+      pins = p .pins ∙ ap (λ (f : Fields). f .pins) e;
+      writes = p .writes ∙ ap (λ (f : Fields). padded 64 (f .writes)) e;
+      count = p .count ∙ ap (λ (f : Fields). length (f .writes)) e;
+      annotations = p .annotations ∙ ap (λ (f : Fields). length (f .annotations)) e;
+      deed = λ κd r q. deed-holds sheet κd r q ∙ ap (λ (f : Fields). f .deed) e;
+      line = λ κr n r q. line-holds sheet κr n r q ∙ ap (λ (f : Fields). lineAt (f .annotations) n) e;
+      tail = λ κt r q. tail-holds sheet κt r q ∙ ap (λ (f : Fields). lines (f .annotations)) e;
+    }
+
+-- the report's first line is the status of that order
+pub report-demand : (κs : Lfts 1) (sheet : Lent) (r : Text) → Reports κs sheet r
+    → ((rest : List ℕ) × (held r ≡ statusLine (intakeTold (now sheet)) ++ rest)) × Ordered (intakeTold (now sheet)) (intakeOrder (now sheet)) 0
+unfolding intakeTold
+report-demand κs sheet r p =
+    let b = begins-with-status (now sheet) in
+    ((b .0, holds-report (now sheet) r p ∙ b .1), ordered (intakeOrder (now sheet)) 0 tt refl)

@@ -1,7 +1,7 @@
 -- Demand 2. "The control word, the strip of fetched bytes and the frame with its border are exactly those of Motorola's sheets as
 -- document 01 reads them; in graphics the frame gives back the one strip that draws it, and is refused exactly if none does. Each annotation
 -- comes out byte for byte, in order, known key or not."
-use Prim.Native.Nat.{ℕ, _+_, _*_, _<_, _≤_}
+use Prim.Native.Nat.{ℕ, _+_, _*_, _%_, _<_, _≤_}
 use mathlib.Core.Path.{_≡_, refl, sym, ap, _∙_}
 use mathlib.Core.Bool.{Bool, true, false}
 use mathlib.Core.List.{List, [], _∷_, _++_}
@@ -10,7 +10,7 @@ use native.Mathlib.Nat.{mul-comm, mul-le-mul-right, suc-mul}
 use native.Mathlib.Omega.{arith}
 use contract.Lifetimes.{Lfts}
 use denote.Ref.{now}
-use borrow.Author.Tests.{ltb-true, lt-ltb}
+use borrow.Author.Tests.{ltb-true, lt-ltb, le-ltb}
 use lib.Arith.{digits-div, digits-mod}
 use lib.Dec.{ltb}
 use lib.ListN.{length, getD}
@@ -31,7 +31,8 @@ use Rattle.control.specs.Control.{played, wordAfter, playOrder, playTold}
 use Rattle.control.proofs.Plays.{played-more}
 use Rattle.strip.specs.Fetch.{placeOf, fetchPlace, fetchedByte, fetchOrder, fetchTold, stripAfter}
 use Rattle.strip.proofs.Windows.{strip-byte}
-use Rattle.pixel.specs.Picture.{picture}
+use Rattle.pixel.specs.Picture.{pixel, picture}
+use Rattle.pixel.proofs.Letters.{blocks}
 use Rattle.frame.specs.Draw.{drawOrder, drawTold}
 use Rattle.frame.proofs.Draws.{accepted, frame-done}
 use Rattle.screen.specs.Show.{showOrder, showTold}
@@ -39,13 +40,16 @@ use Rattle.screen.proofs.Shows.{fetched, drawn, shown-done}
 use Rattle.back.specs.Stray.{firstStray}
 use Rattle.back.specs.Back.{backLengths, backPixels}
 use Rattle.back.proofs.Backs.{back-accepted, told-passed, strip-done as back-done}
-use Rattle.back.proofs.RoundTrip.{Draws as DrawnBy, written-reads, drawn-read, no-strip}
+use Rattle.back.proofs.RoundTrip.{Draws as DrawnBy, written-reads, drawn-read, drawn-clean, clean-drawn, strip-of, strip-reads, strip-bytes as strip-of-bytes, no-strip}
 use Rattle.back.proofs.Trips.{drawn-is-read, read-as-drawn, read-is-drawn, drawn-as-read}
-use Rattle.text.specs.Code.{Longest}
+use Rattle.text.specs.Code.{got, Longest}
 use Rattle.grammar.specs.Sheet.{nl, Fields, ValidSheet, front, render, sheets}
-use Rattle.grammar.specs.Given.{fieldsIn}
+use Rattle.grammar.specs.Read.{readSheet}
+use Rattle.grammar.specs.Given.{toldRead, fieldsRead, accepted as acceptedSheet, fieldsIn, lineAt}
+use Rattle.grammar.proofs.Grammar.{read-back}
+use Rattle.grammar.proofs.Length.{none-longer, one-as-long}
 use Rattle.sheet.specs.declared.Sheet.{Sheet}
-use Rattle.sheet.proofs.Annotations.{Reads, Line, Tail, joined, line-some, lines-join, tail-ends, tail-holds, accepted-sheet, refused-sheet}
+use Rattle.sheet.proofs.Annotations.{Reads, Deed, Line, Tail, joined, line-holds, deed-holds, line-some, lines-join, tail-ends, tail-holds, done-accepted, accepted-sheet, refused-sheet}
 use Rattle.intake.specs.Intake.{intakeTold, settingsIn}
 use Rattle.intake.specs.declared.Intake.{Intake}
 use Rattle.intake.proofs.Judges.{given-done}
@@ -175,6 +179,19 @@ nine-exactly κs l font frame strip z out p g lengths =
       λ e. rw (t, n .0 (rw t at e)),
     )
 
+-- So, with graphics pins and buffers long enough, a frame is accepted exactly if some strip draws it.
+pub accepted-exactly : (κs : Lfts 2) (l : Look) (font : List ℕ) (frame strip : Lent) (z : Answer) (out : List ℕ) → ReadsBack κs l frame strip z out → graphics l ≡ true
+    → firstOf (backLengths l (length (now strip)) (length (now frame))) (done (stripLength l)) .number ≡ 0
+    → (Done z) ↔ ((S : List ℕ) × Bytes S × DrawnBy l font S (now frame))
+unfolding backPixels
+accepted-exactly κs l font frame strip z out p g lengths =
+    let t = p .0 ∙ told-passed l (now frame) (now strip) lengths in (
+      λ d. let c = back-accepted l (now frame) (now strip) (rw (p .0) at d) .1 in
+          (strip-of l g (now frame), strip-of-bytes l g (now frame), clean-drawn l g font (now frame) (strip-of l g (now frame)) c (strip-reads l g (now frame))),
+      λ w. let c = drawn-clean l g font (w .0) (now frame) (w .2) in
+          ap (λ (x : Told). x .number) t ∙ simp (le-ltb (firstStray l (now frame)) frameLength (omega arith)),
+    )
+
 -- (v) Each annotation line by its number, with its line end, joined in order: they are the tail, and the tail is the end of the sheet.
 module _ (s : Lent) (κs : Lfts 1) (z : Sheet) (read : Reads κs s z) where
   pub annotations-joined : (κr : ℕ → Lfts 1) (r : ℕ → Lent) → ((n : ℕ) → Line (κr n) s n (r n)) → (κt : Lfts 1) (t : Lent) → Tail κt s t
@@ -183,6 +200,13 @@ module _ (s : Lent) (κs : Lfts 1) (z : Sheet) (read : Reads κs s z) where
 
   pub tail-ends-sheet : Done (z .answer) → (κt : Lfts 1) (t : Lent) → Tail κt s t → now s ≡ front (fieldsIn (now s)) ++ now t
   tail-ends-sheet d κt t w = tail-ends s κs κt z read d t w
+
+  -- Annotation n of an accepted sheet IS its n-th annotation line, whatever its key; the deed is its deed.
+  pub annotation-is : (κr : Lfts 1) (n : ℕ) (r : Lent) → Line κr s n r → now r ≡ lineAt (fieldsIn (now s) .annotations) n
+  annotation-is κr n r q = line-holds s κr n r q
+
+  pub deed-is : (κd : Lfts 1) (r : Lent) → Deed κd s r → now r ≡ fieldsIn (now s) .deed
+  deed-is κd r q = deed-holds s κd r q
 
   -- The count is the number of annotation lines.
   pub counted-lines : (κr : Lfts 1) (n : ℕ) (r : Lent) → Line κr s n r → (0 < length (now r)) ↔ (n < z .annotations)
@@ -194,6 +218,24 @@ module _ (s : Lent) (κs : Lfts 1) (z : Sheet) (read : Reads κs s z) where
 
   pub broken-sheet : (Done (z .answer) → ⊥) → (toldOf (z .answer) .number ≡ 11) × Longest sheets (now s) (toldOf (z .answer) .place) × ((f : Fields) → ValidSheet f → now s ≡ render f → ⊥)
   broken-sheet differ = refused-sheet s κs z read differ
+
+-- Every valid set of fields is read back from its bytes: pins, writes and annotations are those of the fields.
+pub valid-read : (κs : Lfts 1) (s : Lent) (z : Sheet) (f : Fields) → ValidSheet f → now s ≡ render f → Reads κs s z
+    → Done (z .answer) × (fieldsIn (now s) ≡ f)
+valid-read κs s z f valid e p =
+    let r : readSheet (now s) ≡ got f (length (render f)) = ap readSheet e ∙ read-back f valid in
+    (ap (λ (t : Told). t .number) (p .told ∙ ap toldRead r), ap fieldsRead r)
+
+-- The longest sheet has 28,152 bytes: no accepted sheet is longer, and one is as long.
+pub longest-sheet : ((κs : Lfts 1) (s : Lent) (z : Sheet) → Reads κs s z → Done (z .answer) → length (now s) ≤ 28152) × ((s : List ℕ) × (acceptedSheet s ≡ true) × (length s ≡ 28152))
+longest-sheet = ((λ κs s z p d. none-longer (now s) (done-accepted s κs z p d)), one-as-long)
+
+-- Semigraphics: a byte of 128 or more is drawn alike under all pins of text, with any font.
+pub semigraphics-alike : (l m : Look) (font list : List ℕ) → graphics l ≡ false → graphics m ≡ false → (b line t : ℕ) → 128 ≤ b → pixel l font b line t ≡ pixel m list b line t
+unfolding pixel
+semigraphics-alike l m font list g h b line t k =
+    let e = blocks l m font list b (line % 12) k in
+    rw (g, h, e .0, e .1)
 
 -- The settings of a sheet that is taken in: its writes played from reset, and its pins.
 pub sheet-settings : (κs : Lfts 1) (s : Lent) (z : Intake) → TakesIn κs s z → Done (z .answer) → z .settings ≡ settingsIn (now s)

@@ -16,13 +16,13 @@ use Rattle.settings.specs.declared.Settings.{Settings}
 use Rattle.settings.specs.Fields.{graphics}
 use Rattle.settings.specs.Refusals.{stripLength, frameLength}
 use Rattle.strip.specs.Fetch.{fetchPlace, Fetched}
-use Rattle.strip.proofs.Windows.{same-told, same-strip}
+use Rattle.strip.proofs.Windows.{strip-byte, same-told, same-strip}
 use Rattle.pixel.specs.Picture.{owner, picture}
 use Rattle.pixel.proofs.Owners.{owner-below, depends}
 use Rattle.pixel.proofs.Shows.{shows}
 use Rattle.screen.proofs.Shows.{same-shown}
 use Rattle.claims.proofs.Calls.{Lent, Fetches, Shows}
-use Rattle.claims.proofs.Demand1.{show-demand}
+use Rattle.claims.proofs.Demand1.{fetch-demand, show-demand}
 use Rattle.claims.proofs.Demand2.{Done, shown-byte, shown-pixel}
 
 -- Fetching alone: images of one length that agree at the fetched places give the same answer and strip.
@@ -34,6 +34,22 @@ fetch-window s κs κs′ image image′ strip strip′ z z′ out out′ long s
   one-answer (p .0 ∙ same-told s (now image) (now image′) (now strip) long agree) (q .0 ∙ rw same),
   p .1 ∙ rw (same-strip s (now image) (now image′) (now strip) long agree, same) (sym (q .1)),
 )
+
+-- and where both calls are done, a strip byte differs exactly where the images differ at the place of its fetch; nothing else does.
+pub fetch-differs : (s : Settings) (κs κs′ : Lfts 2) (image image′ strip strip′ : Lent) (z z′ : Answer) (out out′ : List ℕ)
+    → length (now image) ≡ length (now image′) → now strip ≡ now strip′
+    → Fetches κs s image strip z out → Fetches κs′ s image′ strip′ z′ out′ → Done z → Done z′
+    → ((k : ℕ) → k < stripLength (s .look)
+    → (getD out k 0 ≡ getD out′ k 0) ↔ (getD (now image) (fetchPlace s (length (now image)) k) 0 ≡ getD (now image′) (fetchPlace s (length (now image)) k) 0))
+    × ((k : ℕ) → stripLength (s .look) ≤ k → getD out k 0 ≡ getD out′ k 0)
+fetch-differs s κs κs′ image image′ strip strip′ z z′ out out′ long same p q d d′ =
+    let a = fetch-demand κs s image strip z out p .1 in
+    let b = fetch-demand κs′ s image′ strip′ z′ out′ q .1 in (
+      λ k h. let x = ap (λ (l : List ℕ). getD l k 0) (p .1) ∙ strip-byte s (now image) (now strip) (rw (p .0) at d) k h in
+          let y = ap (λ (l : List ℕ). getD l k 0) (q .1) ∙ strip-byte s (now image′) (now strip′) (rw (q .0) at d′) k h ∙ ap (λ (n : ℕ). getD (now image′) (fetchPlace s n k) 0) (sym long) in
+          (λ e. sym x ∙ e ∙ y, λ e. x ∙ e ∙ sym y),
+      λ k h. a .past k h ∙ ap (λ (l : List ℕ). getD l k 0) same ∙ sym (b .past k h),
+    )
 
 module _
     (s : Settings)

@@ -1,9 +1,9 @@
 -- Document 01, "Figures to check by": the figures marked P, as one list with a single claim over it, about the definitions.
 use Prim.Native.Nat.{ℕ, zero, suc}
-use mathlib.Core.Bool.{Bool, true, false, _&&_}
 use mathlib.Core.List.{List, [], _∷_, _++_}
-use lib.Dec.{T, eqb}
+use lib.Dec.{T}
 use Rattle.paper.specs.Told.{Told}
+use Rattle.paper.specs.Figure.{Figure, figure, allRight}
 use Rattle.settings.specs.Fields.{lookOf, settingsOf}
 use Rattle.settings.specs.Modes.{width, dots as elementDots}
 use Rattle.counter.specs.Counter.{addressOf, lineStart, bytesOn, advance, carry, fall, clear, start}
@@ -12,24 +12,6 @@ use Rattle.pixel.specs.Graphics.{element, graphic}
 use Rattle.pixel.specs.Text.{lit, ink, block, letter, pattern, inverted}
 use Rattle.pixel.specs.Picture.{pixel}
 use Rattle.control.specs.Control.{withBit, wordAfter, played, firstElsewhere, playTold}
-
--- what the definitions give, and what the paper says
-pub record Figure : Type 0 where
-  pub given : List ℕ
-  pub paper : List ℕ
-
-abbrev figure : List ℕ → List ℕ → Figure
-figure g p = record { given = g; paper = p }
-
-abbrev same : List ℕ → List ℕ → Bool
-same [] [] = true
-same [] (y ∷ ys) = false
-same (x ∷ xs) [] = false
-same (x ∷ xs) (y ∷ ys) = eqb x y && same xs ys
-
-abbrev allRight : List Figure → Bool
-allRight [] = true
-allRight (f ∷ fs) = same (f .given) (f .paper) && allRight fs
 
 -- what is told, as numbers
 abbrev numbers : Told → List ℕ

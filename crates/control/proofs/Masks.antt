@@ -3,7 +3,7 @@ use Prim.Native.Nat.{ℕ, zero, suc, _+_, _-_, _*_, _/_, _%_, _^_, _<_, min}
 use mathlib.Core.Path.{_≡_, sym, ap, ap₂, _∙_}
 use native.Mathlib.Nat.{add-zero, add-mul, one-mul, mod-lt, mod-eq-of-lt, max-eq-right, min-zero, pow-suc, zero-lt-suc, div-lt-iff-lt-mul}
 use native.Mathlib.Omega.{arith}
-use lib.Arith.{dbl-pred}
+use lib.Arith.{dbl-pred, digits-div}
 use lib.Dec.{lit<}
 use lib.Pow.{pow-pos, ones-lt, ones-split, split, shr-lt}
 use lib.Bits.{bitAnd, bitOr, or-block, and-block, or-step, and-step, or-zero-r, and-mask, and-le-l, or-lt}
@@ -58,3 +58,10 @@ pub with-bit-small : (w k b : ℕ) → w < 2 ^ 16 → k < 16 → b < 2 → withB
 with-bit-small w k zero hw h hb = rw (← clear-mask w k hw h) (omega (arith, and-le-l w (65535 - 1 * 2 ^ k % 65536)))
 with-bit-small w k (suc zero) hw h hb = rw (← set-mask w k h) (or-lt 16 w (1 * 2 ^ k % 65536) hw (mod-lt (1 * 2 ^ k) (lit< tt)))
 with-bit-small w k (suc (suc b)) hw h hb = absurd (omega arith)
+
+-- the bit that was put is there
+pub bit-there : (w k b : ℕ) → b < 2 → withBit w k b / 2 ^ k % 2 ≡ b
+unfolding withBit
+bit-there w k b h =
+    let e : withBit w k b / 2 ^ k ≡ w / 2 ^ k / 2 * 2 + b = digits-div (w / 2 ^ k / 2 * 2 + b) (mod-lt w (pow-pos k)) in
+    omega arith

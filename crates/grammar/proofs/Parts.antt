@@ -5,11 +5,14 @@ use native.Mathlib.Nat.{le-of-suc-le-suc}
 use native.Mathlib.Numerals.{add-one}
 use mathlib.Core.Path.{_≡_, refl, sym, _∙_, ap, subst}
 use mathlib.Core.List.{List, [], _∷_, _++_, append-assoc}
-use mathlib.Core.Bool.{true}
+use mathlib.Core.Bool.{true, not}
 use mathlib.Core.Logic.{⊎-elim}
 use borrow.Author.Tests.{lt-ltb, le-ltb}
 use lib.ListN.{length, take, drop, length-append, length-drop}
 use lib.Seq.{drop-append-seam, drop-drop, take-at}
+use Rattle.paper.specs.Choose.{choose}
+use Rattle.paper.specs.Told.{told, done}
+use Rattle.paper.specs.Order.{firstOf}
 use Rattle.text.specs.Code.{Reading, got, stuck}
 use Rattle.text.specs.Combine.{AllValid, texts}
 use Rattle.text.proofs.Tests.{clash}
@@ -17,7 +20,7 @@ use Rattle.text.proofs.Lists.{le-or-lt}
 use Rattle.text.proofs.Back.{back-any}
 use Rattle.grammar.specs.Sheet.{deedWord, eq, nl, pinsLine, writesLine, atLine, Annotation, line, annotationLine, Fields, ValidSheet, front, lines, render}
 use Rattle.grammar.specs.Read.{readAnnotation, readSheet}
-use Rattle.grammar.specs.Given.{isGot, fieldsRead, accepted, fieldsIn, deedFrom, tailFrom, annotationFrom, lineAt}
+use Rattle.grammar.specs.Given.{isGot, toldRead, noFields, fieldsRead, accepted, toldIn, fieldsIn, sheetOrder, deedFrom, tailFrom, annotationFrom, lineAt}
 use Rattle.grammar.proofs.Grammar.{accepted-fields, annotation-right, annotation-prefix}
 
 -- ---- an accepted sheet is the bytes of its fields
@@ -30,6 +33,22 @@ accepted-render s h = go (readSheet s) refl
         let q : f ≡ fieldsIn s = sym (ap fieldsRead e) in
         (subst ValidSheet q (a .0), a .1 ∙ ap render q)
     go (stuck n) e = absurd (clash h (ap isGot e))
+
+-- what is told of a sheet is what its order says
+told-by : (r : Reading Fields) → toldRead r ≡ choose (not (isGot r)) (told 11 (toldRead r .place) 0) (done 0)
+told-by (got f n) = refl
+told-by (stuck n) = refl
+
+pub sheet-told : (s : List ℕ) → toldIn s ≡ firstOf (sheetOrder s) (done 0)
+sheet-told s = told-by (readSheet s)
+
+-- a refused sheet has no fields
+none-by : (r : Reading Fields) → (toldRead r .number ≡ 0 → ⊥) → fieldsRead r ≡ noFields
+none-by (got f n) h = absurd (h refl)
+none-by (stuck n) h = refl
+
+pub refused-fields : (s : List ℕ) → (toldIn s .number ≡ 0 → ⊥) → fieldsIn s ≡ noFields
+refused-fields s h = none-by (readSheet s) h
 
 -- a sheet with an annotation is accepted
 pub some-accepted : (s : List ℕ) → 0 < length (fieldsIn s .annotations) → accepted s ≡ true

@@ -1,11 +1,12 @@
 -- What the operations give of the bytes of a sheet: the answer, the fields, and where the parts lie.
 use Prim.Native.Nat.{ℕ, zero, suc, _+_, _-_}
 use mathlib.Core.List.{List, [], _∷_, _++_}
-use mathlib.Core.Bool.{Bool, true, false}
+use mathlib.Core.Bool.{Bool, true, false, not}
 use lib.Dec.{ltb}
 use lib.ListN.{length, take, replicate}
 use Rattle.paper.specs.Choose.{choose}
 use Rattle.paper.specs.Told.{Told, told, done}
+use Rattle.paper.specs.Order.{Check, check}
 use Rattle.text.specs.Code.{Reading, got, stuck}
 use Rattle.grammar.specs.Sheet.{deedWord, eq, Annotation, Fields, line, lines, front}
 use Rattle.grammar.specs.Read.{readSheet}
@@ -37,6 +38,10 @@ toldIn s = toldRead (readSheet s)
 
 abbrev pub fieldsIn : List ℕ → Fields
 fieldsIn s = fieldsRead (readSheet s)
+
+-- a sheet's one refusal: 11, with its place
+abbrev pub sheetOrder : List ℕ → List Check
+sheetOrder s = check (not (accepted s)) (told 11 (toldIn s .place) 0) ∷ []
 
 -- a list in an array of k places, 0 in those that are not used
 abbrev pub padded : ℕ → List ℕ → List ℕ

@@ -1,16 +1,15 @@
 -- The settings of a sheet and what is told of them (document 01, "The report"): its writes played from reset, in the order 11, 10, 1, 2, 4.
 use Prim.Native.Nat.{ℕ}
-use mathlib.Core.Bool.{not}
 use mathlib.Core.List.{List, [], _∷_, _++_}
 use lib.Dec.{eqb}
 use Rattle.paper.specs.Choose.{choose}
-use Rattle.paper.specs.Told.{Told, told, done}
-use Rattle.paper.specs.Order.{Check, check, firstOf}
+use Rattle.paper.specs.Told.{Told, done}
+use Rattle.paper.specs.Order.{Check, firstOf}
 use Rattle.settings.specs.declared.Settings.{Settings}
 use Rattle.settings.specs.Fields.{settingsOf}
 use Rattle.settings.specs.Refusals.{pinsAbove, externalText, fastRate}
 use Rattle.control.specs.Control.{played, playOrder}
-use Rattle.grammar.specs.Given.{accepted, toldIn, fieldsIn}
+use Rattle.grammar.specs.Given.{fieldsIn, sheetOrder}
 
 -- the settings that a sheet gives: its writes played from reset, and its pins
 unfoldable pub settingsIn : List ℕ → Settings
@@ -22,7 +21,7 @@ settingOrder s = pinsAbove (s .look) ∷ externalText (s .look) ∷ fastRate s �
 
 -- 11 with its place, 10 with its write, and then those
 abbrev pub intakeOrder : List ℕ → List Check
-intakeOrder s = check (not (accepted s)) (told 11 (toldIn s .place) 0) ∷ (playOrder 0 (fieldsIn s .writes) ++ settingOrder (settingsIn s))
+intakeOrder s = sheetOrder s ++ (playOrder 0 (fieldsIn s .writes) ++ settingOrder (settingsIn s))
 
 unfoldable pub intakeTold : List ℕ → Told
 intakeTold s = firstOf (intakeOrder s) (done 0)

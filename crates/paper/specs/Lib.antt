@@ -6,3 +6,4 @@ pub mod First
 pub mod Written
 pub mod Fixes
 pub mod Part
+pub mod Figure

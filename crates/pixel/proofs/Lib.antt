@@ -3,5 +3,6 @@ pub mod Pins
 pub mod Digits
 pub mod Owners
 pub mod Elements
+pub mod Examples
 pub mod Shows
 pub mod Letters

@@ -102,7 +102,7 @@ module _ (s : Lent) where
       ∙ joined-lines l ∙ sym (tail-holds κt t w)
 
   -- which arm an answer is of
-  done-accepted : (κs : Lfts 1) (z : Sheet) → Reads κs s z → toldOf (z .answer) .number ≡ 0 → accepted (now s) ≡ true
+  pub done-accepted : (κs : Lfts 1) (z : Sheet) → Reads κs s z → toldOf (z .answer) .number ≡ 0 → accepted (now s) ≡ true
   done-accepted κs z p h = go (readSheet (now s)) refl
     where
       go : (o : Reading Fields) → readSheet (now s) ≡ o → accepted (now s) ≡ true

@@ -89,3 +89,11 @@ module _ (s : List ℕ) where
       by-test (eqb (intakeTold s .number) 0)
       (λ e. (statusLine (intakeTold s) ++ (deedLine s ++ (settingLines (settingsIn s) ++ counted)), report-done s (eqb-true _ _ e) ∙ done-ends))
       (λ e. (statusLine (intakeTold s) ++ (placeLine (intakeTold s) ++ (deedLine s ++ counted)), report-refused s (eqb-false _ _ e) h ∙ refused-ends))
+
+  -- every report begins with its status
+  pub begins-with-status : (rest : List ℕ) × (reportOf s ≡ statusLine (intakeTold s) ++ rest)
+  unfolding reportOf
+  begins-with-status =
+      by-test (eqb (intakeTold s .number) 0)
+      (λ e. (deedLine s ++ (settingLines (settingsIn s) ++ annotated s), simp e))
+      (λ e. by-test (eqb (intakeTold s .number) 11) (λ d. (placeLine (intakeTold s), simp (e, d))) (λ d. (placeLine (intakeTold s) ++ (deedLine s ++ annotated s), simp (e, d))))

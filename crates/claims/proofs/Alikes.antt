@@ -1,0 +1,170 @@
+-- What the definitions read of the settings: those that are the same in it give the same answers, strips and frames.
+use Prim.Native.Nat.{ℕ, zero, suc, _+_, _*_, _/_, _%_, _^_, _<_}
+use mathlib.Core.Path.{_≡_, refl, sym, ap, _∙_}
+use mathlib.Core.Bool.{Bool, true, false, not, _&&_}
+use mathlib.Core.List.{List}
+use native.Mathlib.Nat.{mod-lt}
+use native.Mathlib.Omega.{arith}
+use borrow.Author.Tests.{lt-ltb, le-ltb, ltb-true, ltb-false}
+use lib.Dec.{eqb, ltb}
+use lib.ListN.{length, getD}
+use lib.Pow.{high, low, pow-pos, shr-shr}
+use Rattle.paper.specs.Choose.{choose}
+use Rattle.paper.specs.First.{firstWhere}
+use Rattle.paper.proofs.Choices.{by-test}
+use Rattle.paper.proofs.Fills.{written-by}
+use Rattle.settings.specs.declared.Look.{Look}
+use Rattle.settings.specs.declared.Settings.{Settings}
+use Rattle.settings.specs.Fields.{videoMode, offset, fast, graphics, external, gm, gm2, gm1, gm0, css}
+use Rattle.settings.specs.Modes.{width, dots, border, fontSize}
+use Rattle.settings.specs.Refusals.{stripLength, frameLength}
+use Rattle.control.specs.Control.{withBit}
+use Rattle.counter.specs.declared.Counter.{Counter}
+use Rattle.counter.specs.Counter.{start, lineStart, bytesOn, addressOf}
+use Rattle.counter.proofs.Shifts.{bytes-by-v, clear-by-v}
+use Rattle.strip.specs.Fetch.{imagePlace, fetchPlace, fetchTold, stripAfter}
+use Rattle.pixel.specs.Graphics.{count, element, graphic}
+use Rattle.pixel.specs.Text.{pattern, inverted, letter, block, lit, ink}
+use Rattle.pixel.specs.Picture.{pixel, owner, dot, picture}
+use Rattle.frame.specs.Draw.{drawTold, frameAfter}
+use Rattle.screen.specs.Show.{showTold, stripShown, frameShown}
+use Rattle.back.specs.Read.{values, readByte}
+use Rattle.back.specs.Stray.{shows, leftmost, stray, firstStray}
+use Rattle.back.specs.Back.{backPixels, backTold, stripBack}
+
+-- of the pins: whether they are above 63, whether they ask for external characters, A/G, GM2-GM0 and CSS
+pub record SameLook (l m : Look) : Type 0 where
+  pub above : ltb 63 (l .pins) ≡ ltb 63 (m .pins)
+  pub outside : not (graphics l) && external l ≡ not (graphics m) && external m
+  pub mode : graphics l ≡ graphics m
+  pub number : gm l ≡ gm m
+  pub colours : css l ≡ css m
+
+module _ {l m : Look} (e : SameLook l m) where
+  -- GM2, GM1 and GM0 alone
+  second : gm2 l ≡ gm2 m
+  second = omega (arith, e .number)
+
+  first : gm1 l ≡ gm1 m
+  first = omega (arith, e .number)
+
+  zeroth : gm0 l ≡ gm0 m
+  zeroth = omega (arith, e .number)
+
+  width-alike : width l ≡ width m
+  unfolding width
+  width-alike = rw (e .mode, e .number)
+
+  border-alike : border l ≡ border m
+  unfolding border
+  border-alike = rw (e .mode, e .colours, second, first)
+
+  -- drawing
+  picture-alike : (font strip : List ℕ) (k : ℕ) → picture l font strip k ≡ picture m font strip k
+  unfolding picture pixel owner dot graphic element dots lit letter pattern inverted block ink
+  picture-alike font strip k = rw (width-alike, e .mode, e .number, e .colours, first, zeroth)
+
+  pub drawTold-alike : (font strip frame : List ℕ) → drawTold l font strip frame ≡ drawTold m font strip frame
+  unfolding drawTold fontSize
+  drawTold-alike font strip frame = rw (border-alike, width-alike, e .above, e .outside, e .mode)
+
+  pub frameAfter-alike : (font strip frame : List ℕ) → frameAfter l font strip frame ≡ frameAfter m font strip frame
+  unfolding frameAfter
+  frameAfter-alike font strip frame = rw (drawTold-alike font strip frame, written-by frameLength frame (λ k _. picture-alike font strip k))
+
+  -- reading back
+  readByte-alike : (frame : List ℕ) (i : ℕ) → readByte l frame i ≡ readByte m frame i
+  unfolding readByte values count dots
+  readByte-alike frame i = rw (width-alike, e .mode, e .number, zeroth)
+
+  stray-alike : (frame : List ℕ) (k : ℕ) → stray l frame k ≡ stray m frame k
+  unfolding stray shows leftmost dots
+  stray-alike frame k = rw (e .mode, e .number, e .colours, zeroth)
+
+  firstStray-alike : (frame : List ℕ) → firstStray l frame ≡ firstStray m frame
+  unfolding firstStray
+  firstStray-alike frame = λ i. firstWhere (λ (k : ℕ). stray-alike frame k i) frameLength
+
+  pub backTold-alike : (frame strip : List ℕ) → backTold l frame strip ≡ backTold m frame strip
+  unfolding backTold backPixels
+  backTold-alike frame strip = rw (firstStray-alike frame, width-alike, e .above, e .mode)
+
+  pub stripBack-alike : (frame strip : List ℕ) → stripBack l frame strip ≡ stripBack m frame strip
+  unfolding stripBack
+  stripBack-alike frame strip = rw (backTold-alike frame strip, width-alike, written-by (stripLength m) strip (λ i _. readByte-alike frame i))
+
+-- of the control word: V2-V0, F6-F0 and R1
+pub record SameSettings (s t : Settings) : Type 0 where
+  pub video : videoMode s ≡ videoMode t
+  pub from : offset s ≡ offset t
+  pub rate : fast s ≡ fast t
+  pub look : SameLook (s .look) (t .look)
+
+module _ {s t : Settings} (e : SameSettings s t) where
+  -- fetching
+  lineStart-alike : (n : ℕ) → lineStart s n ≡ lineStart t n
+  unfolding lineStart start
+  lineStart-alike zero = rw (e .from)
+  lineStart-alike (suc n) = rw (width-alike (e .look), lineStart-alike n, bytes-by-v s t (e .video) (width (t .look)) (lineStart t n)) (clear-by-v s t (e .video) _)
+
+  addressOf-alike : (n c : ℕ) → addressOf s n c ≡ addressOf t n c
+  unfolding addressOf
+  addressOf-alike n c = ap (λ (d : Counter). d .address) (bytes-by-v s t (e .video) c (lineStart s n) ∙ ap (bytesOn t c) (lineStart-alike n))
+
+  fetchPlace-alike : (size k : ℕ) → fetchPlace s size k ≡ fetchPlace t size k
+  unfolding fetchPlace imagePlace
+  fetchPlace-alike size k = rw (width-alike (e .look), addressOf-alike (k / width (t .look)) (k % width (t .look)))
+
+  pub fetchTold-alike : (image strip : List ℕ) → fetchTold s image strip ≡ fetchTold t image strip
+  unfolding fetchTold
+  fetchTold-alike image strip = rw (width-alike (e .look), e .look .above, e .look .outside, e .rate)
+
+  pub stripAfter-alike : (image strip : List ℕ) → stripAfter s image strip ≡ stripAfter t image strip
+  unfolding stripAfter
+  stripAfter-alike image strip =
+      rw (fetchTold-alike image strip, width-alike (e .look), written-by (stripLength (t .look)) strip (λ k _. ap (λ (p : ℕ). getD image p 0) (fetchPlace-alike (length image) k)))
+
+  -- both at once
+  module _ (image font strip frame : List ℕ) where
+    pub showTold-alike : showTold s image font strip frame ≡ showTold t image font strip frame
+    unfolding showTold fontSize
+    showTold-alike = rw (border-alike (e .look), width-alike (e .look), e .look .above, e .look .outside, e .look .mode, e .rate)
+
+    pub stripShown-alike : stripShown s image font strip frame ≡ stripShown t image font strip frame
+    unfolding stripShown
+    stripShown-alike = rw (showTold-alike, stripAfter-alike image strip)
+
+    pub frameShown-alike : frameShown s image font strip frame ≡ frameShown t image font strip frame
+    unfolding frameShown
+    frameShown-alike = rw (showTold-alike, stripAfter-alike image strip, frameAfter-alike (e .look) font (stripAfter t image strip) frame)
+
+-- ---- tests that are told as numbers
+-- a test told by 1 or 0
+pub by-number : (a b : Bool) → _≡_ {A = ℕ} (choose a 1 0) (choose b 1 0) → a ≡ b
+by-number true true e = refl
+by-number true false e = absurd (omega arith)
+by-number false true e = absurd (omega arith)
+by-number false false e = refl
+
+-- a bit that is told only where a test fails
+pub by-bit : (a b : Bool) (x y : ℕ) → a ≡ b → choose a 0 x ≡ choose b 0 y → not a && eqb x 1 ≡ not b && eqb y 1
+by-bit true true x y g e = refl
+by-bit true false x y g e = let z : _≡_ {A = ℕ} 0 1 = cc in absurd (omega arith)
+by-bit false true x y g e = let z : _≡_ {A = ℕ} 0 1 = cc in absurd (omega arith)
+by-bit false false x y g e = ap (λ (n : ℕ). eqb n 1) e
+
+-- bytes that agree from bit 6 on are both above 63, or neither is
+pub by-high : (x y : ℕ) → x / 64 ≡ y / 64 → ltb 63 x ≡ ltb 63 y
+by-high x y e = by-test (ltb 63 y) (λ t. lt-ltb 63 x (omega (arith, ltb-true 63 y t)) ∙ sym t) (λ f. le-ltb 63 x (omega (arith, ltb-false 63 y f)) ∙ sym f)
+
+-- ---- what stays of a word of which a bit is set or cleared: the bits below it, and those above it
+pub bits-below : (w k b : ℕ) → withBit w k b % 2 ^ k ≡ w % 2 ^ k
+unfolding withBit
+bits-below w k b = low (w / 2 ^ k / 2 * 2 + b) k (mod-lt w (pow-pos k))
+
+pub bits-above : (w k b : ℕ) → b < 2 → (j : ℕ) → withBit w k b / 2 ^ (k + (1 + j)) ≡ w / 2 ^ (k + (1 + j))
+unfolding withBit
+bits-above w k b h j =
+    let at : (n : ℕ) → n / 2 ^ k / 2 / 2 ^ j ≡ n / 2 ^ (k + (1 + j)) = λ n. shr-shr (n / 2 ^ k) 1 j ∙ shr-shr n k (1 + j) in
+    let e : (w / 2 ^ k / 2 * 2 + b) / 2 ≡ w / 2 ^ k / 2 = omega arith in
+    sym (at (withBit w k b)) ∙ ap (λ (n : ℕ). n / 2 / 2 ^ j) (high (w / 2 ^ k / 2 * 2 + b) k (mod-lt w (pow-pos k))) ∙ ap (λ (n : ℕ). n / 2 ^ j) e ∙ at w

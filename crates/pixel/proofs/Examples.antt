@@ -1,0 +1,45 @@
+-- The dots of text bytes: document 01's figure, and a case for each rule of letters and of Semigraphics, computed from the definitions.
+use Prim.Native.Nat.{ℕ, zero, suc}
+use mathlib.Core.List.{List, [], _∷_, _++_}
+use lib.Dec.{T}
+use lib.ListN.{replicate}
+use Rattle.paper.specs.Figure.{Figure, figure, allRight}
+use Rattle.settings.specs.Fields.{lookOf}
+use Rattle.pixel.specs.Dots.{bit, oneBit}
+use Rattle.pixel.specs.Text.{pattern, inverted, letter, block, lit, ink}
+use Rattle.pixel.specs.Picture.{pixel}
+
+-- a font whose pattern 1 has 18 in its first row
+abbrev font : List ℕ
+font = replicate 12 0 ++ (0x18 ∷ [])
+
+-- the eight dots of a byte on a line, by the pins
+abbrev dotsFrom : ℕ → ℕ → ℕ → ℕ → List ℕ
+dotsFrom p b line zero = []
+dotsFrom p b line (suc n) = dotsFrom p b line n ++ (pixel (lookOf p) font b line n ∷ [])
+
+abbrev dots : ℕ → ℕ → ℕ → List ℕ
+dots p b line = dotsFrom p b line 8
+
+pub examples : List Figure
+examples =
+    -- GM0 = 0: DD6 inverts; a line later the row is empty; GM1 exchanges once more; CSS 1 shows orange
+    figure (dots 0x00 0x41 0) (0 ∷ 0 ∷ 0 ∷ 8 ∷ 8 ∷ 0 ∷ 0 ∷ 0 ∷ [])
+    ∷ figure (dots 0x00 0x01 0) (8 ∷ 8 ∷ 8 ∷ 0 ∷ 0 ∷ 8 ∷ 8 ∷ 8 ∷ [])
+    ∷ figure (dots 0x00 0x01 1) (8 ∷ 8 ∷ 8 ∷ 8 ∷ 8 ∷ 8 ∷ 8 ∷ 8 ∷ [])
+    ∷ figure (dots 0x04 0x41 12) (8 ∷ 8 ∷ 8 ∷ 0 ∷ 0 ∷ 8 ∷ 8 ∷ 8 ∷ [])
+    ∷ figure (dots 0x01 0x41 0) (7 ∷ 7 ∷ 7 ∷ 8 ∷ 8 ∷ 7 ∷ 7 ∷ 7 ∷ [])
+    -- GM0 = 1: not inverted; with DD6 = 1 the pattern is 64 plus the low five bits
+    ∷ figure (dots 0x02 0x01 0) (8 ∷ 8 ∷ 8 ∷ 0 ∷ 0 ∷ 8 ∷ 8 ∷ 8 ∷ [])
+    ∷ figure (pattern (lookOf 0x02) 0x61 ∷ pattern (lookOf 0x02) 0x41 ∷ pattern (lookOf 0x02) 0x21 ∷ pattern (lookOf 0x00) 0x61 ∷ []) (65 ∷ 65 ∷ 33 ∷ 33 ∷ [])
+    ∷ figure (inverted (lookOf 0x02) 0x61 ∷ inverted (lookOf 0x00) 0x61 ∷ inverted (lookOf 0x00) 0x21 ∷ []) (0 ∷ 1 ∷ 0 ∷ [])
+    -- Semigraphics: bits 3, 2, 1, 0 light top left, top right, bottom left, bottom right, in the colour of bits 6-4
+    ∷ figure (dots 0x00 0x98 5 ++ dots 0x00 0x98 6) (1 ∷ 1 ∷ 1 ∷ 1 ∷ 8 ∷ 8 ∷ 8 ∷ 8 ∷ 8 ∷ 8 ∷ 8 ∷ 8 ∷ 8 ∷ 8 ∷ 8 ∷ 8 ∷ [])
+    ∷ figure (dots 0x00 0xA4 0 ++ dots 0x00 0xA4 11) (8 ∷ 8 ∷ 8 ∷ 8 ∷ 2 ∷ 2 ∷ 2 ∷ 2 ∷ 8 ∷ 8 ∷ 8 ∷ 8 ∷ 8 ∷ 8 ∷ 8 ∷ 8 ∷ [])
+    ∷ figure (dots 0x0F 0xB2 5 ++ dots 0x0F 0xB2 6) (8 ∷ 8 ∷ 8 ∷ 8 ∷ 8 ∷ 8 ∷ 8 ∷ 8 ∷ 3 ∷ 3 ∷ 3 ∷ 3 ∷ 8 ∷ 8 ∷ 8 ∷ 8 ∷ [])
+    ∷ figure (dots 0x04 0xF1 17 ++ dots 0x04 0xF1 18) (8 ∷ 8 ∷ 8 ∷ 8 ∷ 8 ∷ 8 ∷ 8 ∷ 8 ∷ 8 ∷ 8 ∷ 8 ∷ 8 ∷ 7 ∷ 7 ∷ 7 ∷ 7 ∷ [])
+    ∷ []
+
+pub examples-right : T (allRight examples)
+unfolding examples pixel oneBit bit lit ink block letter pattern inverted
+examples-right = tt
