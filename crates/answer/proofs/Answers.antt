@@ -1,8 +1,8 @@
 -- Laws of answers: an answer is known by what is told of it.
 use mathlib.Core.Path.{_≡_, refl, sym, ap, _∙_}
 use lib.Dec.{eqb}
-use Rattle.paper.specs.Choose.{choose}
-use Rattle.paper.specs.Told.{Told}
+use Rattle.promises.specs.Choose.{choose}
+use Rattle.promises.specs.Told.{Told}
 use Rattle.answer.specs.declared.Unfit.the-variants.{PinsAbove, External, TextBack, FastRate, ImageLength, FontLength, ShortStrip, ShortFrame}
 use Rattle.answer.specs.declared.Later.the-variants.{OtherChip, ShortDestination}
 use Rattle.answer.specs.declared.Spot.the-variants.{Stray, BrokenSheet}

@@ -1,6 +1,6 @@
 -- The numbers a clerk sees: what document 01's table, and document 02 after it, tells of each answer, a line for each case.
 use Prim.Native.Nat.{ℕ}
-use Rattle.paper.specs.Told.{Told, told, done, refused}
+use Rattle.promises.specs.Told.{Told, told, done, refused}
 use Rattle.answer.specs.declared.Unfit.{Unfit}
 use Rattle.answer.specs.declared.Unfit.the-variants.{PinsAbove, External, TextBack, FastRate, ImageLength, FontLength, ShortStrip, ShortFrame}
 use Rattle.answer.specs.declared.Later.{Later}

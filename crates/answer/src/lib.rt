@@ -1,6 +1,6 @@
 // What an operation answers, and what a clerk is told of it.
 ghost use mathlib.Core.Path.{_≡_};
-ghost use Rattle.paper.specs.Order.{check, after};
+ghost use Rattle.promises.specs.Order.{check, after};
 ghost use Rattle.answer.specs.Told.{unfitNumber, laterNumber, spotNumber, toldOf};
 
 // Refusals by settings and lengths; none names a place.
@@ -29,7 +29,7 @@ pub enum Spot {
     BrokenSheet,
 }
 
-// Done with its value, or refused: each case holds what the paper gives it.
+// Done with its value, or refused: each case holds what document 01 has told of it.
 pub enum Answer {
     Done(usize),
     Unfit(Unfit),
@@ -39,7 +39,7 @@ pub enum Answer {
     Elsewhere(usize, u16),
 }
 
-// The numbers of each chapter, in the order in which they landed.
+// The number of each refusal, for each of the three enums.
 fn unfit_number(u: Unfit) -> u8
     ensures { λ r. ⌜ r ≡ unfitNumber u ⌝ }
 {
@@ -86,7 +86,7 @@ pub fn number(a: Answer) -> u8
     }
 }
 
-// The place of what is wrong, 0 where the paper names none.
+// The place of what is wrong, 0 where the documents name none.
 pub fn place(a: Answer) -> usize
     ensures { λ r. ⌜ r ≡ toldOf a .place ⌝ }
 {

@@ -7,12 +7,12 @@ use native.Mathlib.Omega.{arith}
 use lib.Dec.{ltb}
 use lib.ListN.{length, getD}
 use borrow.Author.Tests.{lt-ltb, le-ltb, ltb-false, not-false}
-use Rattle.paper.specs.Told.{Told, told, done}
-use Rattle.paper.specs.Order.{firstOf}
-use Rattle.paper.specs.Written.{written}
-use Rattle.paper.proofs.Fills.{leaves-done, leaves-refused}
-use Rattle.paper.proofs.Orders.{done-when, passing}
-use Rattle.paper.proofs.Later.{first-refuses, first-passes, first-done}
+use Rattle.promises.specs.Told.{Told, told, done}
+use Rattle.promises.specs.Order.{firstOf}
+use Rattle.promises.specs.Written.{written}
+use Rattle.promises.proofs.Fills.{leaves-done, leaves-refused}
+use Rattle.promises.proofs.Orders.{done-when, passing}
+use Rattle.promises.proofs.Later.{first-refuses, first-passes, first-done}
 use Rattle.settings.specs.declared.Look.{Look}
 use Rattle.settings.specs.Fields.{graphics}
 use Rattle.settings.specs.Modes.{width}

@@ -8,10 +8,10 @@ use native.Mathlib.Omega.{arith}
 use lib.Dec.{eqb}
 use lib.ListN.{length, getD, replicate, length-replicate}
 use borrow.Author.Tests.{eq-eqb, eqb-true, not-false}
-use Rattle.paper.specs.Written.{Bytes, written, Filled}
-use Rattle.paper.proofs.Choices.{both-pass}
-use Rattle.paper.proofs.Fills.{lt-or-ge, written-fills}
-use Rattle.paper.proofs.Firsts.{first-le, first-none, nowhere}
+use Rattle.promises.specs.Written.{Bytes, written, Filled}
+use Rattle.promises.proofs.Choices.{both-pass}
+use Rattle.promises.proofs.Fills.{lt-or-ge, written-fills}
+use Rattle.promises.proofs.Firsts.{first-le, first-none, nowhere}
 use Rattle.settings.specs.declared.Look.{Look}
 use Rattle.settings.specs.Fields.{graphics}
 use Rattle.settings.specs.Modes.{width, dots}

@@ -8,7 +8,7 @@ use native.Mathlib.Nat.{div-eq-of-lt, suc-mul, add-mul, mul-assoc, mul-le-mul-le
 use native.Mathlib.Numerals.{add-one}
 use native.Mathlib.Omega.{arith}
 use lib.Dec.{eqb}
-use Rattle.paper.proofs.Fills.{lt-or-ge}
+use Rattle.promises.proofs.Fills.{lt-or-ge}
 use Rattle.settings.specs.declared.Look.{Look}
 use Rattle.settings.specs.Fields.{graphics, gm0}
 use Rattle.settings.specs.Modes.{dots}

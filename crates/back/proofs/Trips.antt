@@ -5,8 +5,8 @@ use mathlib.Core.Bool.{true}
 use mathlib.Core.List.{List}
 use native.Mathlib.Omega.{arith}
 use lib.ListN.{length, getD}
-use Rattle.paper.specs.Written.{Bytes, written}
-use Rattle.paper.proofs.Fills.{length-written}
+use Rattle.promises.specs.Written.{Bytes, written}
+use Rattle.promises.proofs.Fills.{length-written}
 use Rattle.settings.specs.declared.Look.{Look}
 use Rattle.settings.specs.Fields.{graphics}
 use Rattle.settings.specs.Modes.{width}

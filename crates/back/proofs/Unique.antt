@@ -1,14 +1,12 @@
 -- Every public operation of `back`: its contract, as the source has it, takes every input and allows one outcome.
 use mathlib.Core.Path.{sym, _∙_}
 use base.Logic.{emp, id⊢}
-use Rattle.paper.specs.Fixes.{Operation, Fixes, whole, two-tell}
+use Rattle.promises.specs.Fixes.{Operation, Fixes, whole, two-tell}
 use Rattle.answer.proofs.Answers.{one-answer}
-use Rattle.back.proofs.read_back.{ended as read-back-ended, clauses as read-back-clauses}
-use Rattle.back.proofs.read_back.Key.{name as #read-back}
-use Rattle.back.proofs.read_back.Reads as read-back
+use Rattle.back.proofs.read_back as read-back
 
 abbrev pub read-back-op : Operation
-read-back-op = record { key = #read-back; T = read-back-ended; clauses = λ M. read-back-clauses; Says = read-back.Learnt; O = _; seen = λ κs. whole }
+read-back-op = record { key = read-back.Key.name; T = read-back.ended; clauses = λ M. read-back.clauses; Says = read-back.Reads.Learnt; O = _; seen = λ κs. whole }
 
 pub read-back-fixes : Fixes read-back-op
 read-back-fixes = record {

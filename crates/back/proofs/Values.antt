@@ -5,7 +5,7 @@ use mathlib.Core.Bool.{Bool, true, false, _||_}
 use native.Mathlib.Omega.{arith}
 use lib.Dec.{eqb}
 use borrow.Author.Tests.{eq-eqb, eqb-true}
-use Rattle.paper.specs.Choose.{choose}
+use Rattle.promises.specs.Choose.{choose}
 use Rattle.settings.specs.declared.Look.{Look}
 use Rattle.settings.specs.Fields.{css}
 use Rattle.pixel.specs.Dots.{black, bit, oneBit, twoBits, digits}

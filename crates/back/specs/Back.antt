@@ -5,9 +5,9 @@ use mathlib.Core.Bool.{true}
 use mathlib.Core.List.{List, [], _∷_, _++_}
 use lib.Dec.{ltb}
 use lib.ListN.{length}
-use Rattle.paper.specs.Told.{Told, told, done}
-use Rattle.paper.specs.Order.{Check, check, firstOf}
-use Rattle.paper.specs.Written.{written, leaves}
+use Rattle.promises.specs.Told.{Told, told, done}
+use Rattle.promises.specs.Order.{Check, check, firstOf}
+use Rattle.promises.specs.Written.{written, leaves}
 use Rattle.settings.specs.declared.Look.{Look}
 use Rattle.settings.specs.Fields.{graphics}
 use Rattle.settings.specs.Refusals.{stripLength, frameLength, pinsAbove, textBack, shortStrip, shortFrame}

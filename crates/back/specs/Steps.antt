@@ -1,4 +1,4 @@
--- The steps of reading back: what is known of a mode's numbers while its bytes are gathered.
+-- What the loops of reading back ask of a mode's numbers: the elements of a byte, their values and their dots.
 use Prim.Native.Nat.{ℕ, _*_, _/_, _≤_, _<_}
 use mathlib.Core.Path.{_≡_}
 use mathlib.Core.Logic.{_⊎_}

@@ -4,8 +4,8 @@ use mathlib.Core.Bool.{Bool, not, _&&_, _||_}
 use mathlib.Core.List.{List}
 use lib.Dec.{eqb}
 use lib.ListN.{getD}
-use Rattle.paper.specs.Choose.{choose}
-use Rattle.paper.specs.First.{firstWhere}
+use Rattle.promises.specs.Choose.{choose}
+use Rattle.promises.specs.First.{firstWhere}
 use Rattle.settings.specs.declared.Look.{Look}
 use Rattle.settings.specs.Fields.{gm0, css}
 use Rattle.settings.specs.Modes.{dots}

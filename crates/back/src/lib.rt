@@ -3,9 +3,9 @@ ghost use mathlib.Core.Path.{_≡_};
 ghost use mathlib.Core.Bool.{true, false};
 ghost use Prim.Native.Nat.{ℕ, _+_, _*_, _/_, _<_, _≤_};
 ghost use lib.ListN.{length, getD};
-ghost use Rattle.paper.specs.Written.{Filled};
-ghost use Rattle.paper.specs.Told.{done};
-ghost use Rattle.paper.specs.Order.{firstOf};
+ghost use Rattle.promises.specs.Written.{Filled};
+ghost use Rattle.promises.specs.Told.{done};
+ghost use Rattle.promises.specs.Order.{firstOf};
 ghost use Rattle.answer.specs.Told.{toldOf};
 ghost use Rattle.settings.specs.Fields.{graphics};
 ghost use Rattle.settings.specs.Modes.{width};
@@ -55,7 +55,7 @@ fn byte(values: usize, count: usize, dots: usize, frame: &[u8], at: usize) -> u8
     v as u8
 }
 
-// The bytes of line n.
+// Reads the bytes of line n into the strip.
 fn line(values: usize, count: usize, dots: usize, frame: &[u8], n: usize, strip: &mut [u8])
     requires { ⌜ Shape values count dots × (n < 192) × (frameLength ≤ length (now frame)) × (192 * (256 / (count * dots)) ≤ length (now strip)) ⌝ }
     ensures { λ _. ⌜ Filled (λ i. read values count dots (now (frame .entry)) (i * (count * dots))) (n * (256 / (count * dots))) (n * (256 / (count * dots)) + 256 / (count * dots)) (now (strip .entry)) (now (strip .exit)) ⌝ }
@@ -69,7 +69,7 @@ fn line(values: usize, count: usize, dots: usize, frame: &[u8], n: usize, strip:
     }
 }
 
-// The bytes of all lines.
+// Reads the bytes of all 192 lines into the strip.
 fn lines(values: usize, count: usize, dots: usize, frame: &[u8], strip: &mut [u8])
     requires { ⌜ Shape values count dots × (frameLength ≤ length (now frame)) × (192 * (256 / (count * dots)) ≤ length (now strip)) ⌝ }
     ensures { λ _. ⌜ Filled (λ i. read values count dots (now (frame .entry)) (i * (count * dots))) 0 (192 * (256 / (count * dots))) (now (strip .entry)) (now (strip .exit)) ⌝ }
@@ -81,7 +81,7 @@ fn lines(values: usize, count: usize, dots: usize, frame: &[u8], strip: &mut [u8
     }
 }
 
-// The strip that a frame shows. Each call names its mode's numbers, so that it is compiled to its own moves.
+// Reads the strip that a frame shows. Each call has its mode's numbers as constants, so that the compiler makes a loop of its own for it.
 fn gather(look: Look, frame: &[u8], strip: &mut [u8])
     requires { ⌜ (graphics look ≡ true) × (frameLength ≤ length (now frame)) × (192 * width look ≤ length (now strip)) ⌝ }
     ensures { λ _. ⌜ Filled (readByte look (now (frame .entry))) 0 (192 * width look) (now (strip .entry)) (now (strip .exit)) ⌝ }
@@ -140,7 +140,7 @@ fn search(look: Look, frame: &[u8]) -> usize
     k
 }
 
-// Whether two frames differ: no way out of the loop, so that it runs fast.
+// Answers false only where two frames are alike. The loop always runs to its end, which is faster than leaving it early.
 fn differ(a: &[u8], b: &[u8]) -> bool
     requires { ⌜ (frameLength ≤ length (now a)) × (frameLength ≤ length (now b)) ⌝ }
     ensures { λ r. ⌜ (r ≡ false → (k : ℕ) → k < frameLength → getD (now (a .entry)) k 0 ≡ getD (now (b .entry)) k 0) ⌝ }
@@ -154,7 +154,7 @@ fn differ(a: &[u8], b: &[u8]) -> bool
     found
 }
 
-// The first stray pixel, or 49,152. The strip is any; with the one gathered off the frame the search is spared where there is none.
+// The first stray pixel, or 49,152 where there is none. Any strip may be lent; with the one read off the frame nothing is searched where no pixel is stray.
 fn first_stray(look: Look, strip: &[u8], frame: &[u8]) -> usize
     requires { ⌜ (look .pins ≤ 63) × (graphics look ≡ true) × (192 * width look ≤ length (now strip)) × (frameLength ≤ length (now frame)) ⌝ }
     ensures { λ r. ⌜ r ≡ firstStray look (now (frame .entry)) ⌝ }
@@ -181,7 +181,7 @@ fn length_answer(look: Look, strip: usize, frame: usize) -> Answer
     settings::short_frame(answer, frame)
 }
 
-// The work, where no length is refused: the bytes are gathered aside, and stored once it is known that no pixel is stray.
+// The work, where no length is refused: the bytes are read into an array here, and stored in the strip once it is known that no pixel is stray.
 fn take(look: Look, frame: &[u8], strip: &mut [u8]) -> Answer
     requires { ⌜ firstOf (backLengths look (length (now strip)) (length (now frame))) (done (stripLength look)) .number ≡ 0 ⌝ }
     ensures answer { λ r. ⌜ toldOf r ≡ backTold look (now (frame .entry)) (now (strip .entry)) ⌝ }

@@ -1,11 +1,11 @@
--- The law of `store` where both buffers are long enough: what is left, by another name for the bytes.
+-- The law of `store` where both buffers are long enough: n bytes are written, whatever function gives them.
 use Prim.Native.Nat.{ℕ, _≤_, _<_, min}
 use mathlib.Core.Path.{_≡_, ap, _∙_}
 use mathlib.Core.List.{List}
 use native.Mathlib.Omega.{arith}
 use lib.ListN.{length, getD}
-use Rattle.paper.specs.Written.{written}
-use Rattle.paper.proofs.Fills.{written-by}
+use Rattle.promises.specs.Written.{written}
+use Rattle.promises.proofs.Fills.{written-by}
 
 pub stored : (g : ℕ → ℕ) {m : ℕ} (n : ℕ) (bytes room : List ℕ) {new : List ℕ} → m ≡ n → n ≤ length bytes → n ≤ length room → ((k : ℕ) → k < n → getD bytes k 0 ≡ g k)
     → new ≡ written (λ (k : ℕ). getD bytes k 0) (min m (min (length bytes) (length room))) room → new ≡ written g n room

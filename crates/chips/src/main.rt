@@ -1,4 +1,4 @@
-// Crosses what was read off the chips into an image, or back: standard input to standard output, by the arguments k and `image` or `chip`.
+// Brings what was read off the chips to an image, or back: standard input to standard output, by the arguments k and `image` or `chip`.
 use answer::Answer;
 use libc::STDERR_FILENO;
 use libc::STDIN_FILENO;
@@ -87,9 +87,9 @@ fn ended() -> bool {
 // Crosses to an image, or to the chips.
 fn one_way(to_image: bool, k: usize, lent: &[u8], room: &mut [u8]) -> Answer {
     if to_image {
-        return chip::to_image(k, lent, room);
+        return transpose::to_image(k, lent, room);
     }
-    chip::to_chip(k, lent, room)
+    transpose::to_chip(k, lent, room)
 }
 
 // Crosses standard input. The longest image has 65,536 bytes, and a byte more is enough to be refused.

@@ -1,4 +1,4 @@
--- What the definitions read of the settings: those that are the same in it give the same answers, strips and frames.
+-- Settings that are the same in all that the definitions read of them give the same answers, strips and frames.
 use Prim.Native.Nat.{ℕ, zero, suc, _+_, _*_, _/_, _%_, _^_, _<_}
 use mathlib.Core.Path.{_≡_, refl, sym, ap, _∙_}
 use mathlib.Core.Bool.{Bool, true, false, not, _&&_}
@@ -9,10 +9,10 @@ use borrow.Author.Tests.{lt-ltb, le-ltb, ltb-true, ltb-false}
 use lib.Dec.{eqb, ltb}
 use lib.ListN.{length, getD}
 use lib.Pow.{high, low, pow-pos, shr-shr}
-use Rattle.paper.specs.Choose.{choose}
-use Rattle.paper.specs.First.{firstWhere}
-use Rattle.paper.proofs.Choices.{by-test}
-use Rattle.paper.proofs.Fills.{written-by}
+use Rattle.promises.specs.Choose.{choose}
+use Rattle.promises.specs.First.{firstWhere}
+use Rattle.promises.proofs.Choices.{by-test}
+use Rattle.promises.proofs.Fills.{written-by}
 use Rattle.settings.specs.declared.Look.{Look}
 use Rattle.settings.specs.declared.Settings.{Settings}
 use Rattle.settings.specs.Fields.{videoMode, offset, fast, graphics, external, gm, gm2, gm1, gm0, css}

@@ -5,7 +5,7 @@ use mathlib.Core.Bool.{Bool, true, _&&_}
 use native.Mathlib.Nat.{mod-eq-of-lt, le-of-suc-le-suc}
 use native.Mathlib.Omega.{arith}
 use lib.Dec.{T, eqb, eqb→eq}
-use Rattle.paper.proofs.Orders.{both}
+use Rattle.promises.proofs.Orders.{both}
 use Rattle.settings.specs.declared.Settings.{Settings}
 use Rattle.settings.specs.Fields.{settingsOf}
 use Rattle.settings.specs.Modes.{width}

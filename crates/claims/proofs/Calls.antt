@@ -3,7 +3,7 @@ use Prim.Native.Nat.{ℕ}
 use mathlib.Core.List.{List}
 use contract.Lifetimes.{Lfts}
 use denote.Ref.{RefT}
-use Rattle.paper.specs.Fixes.{Allows}
+use Rattle.promises.specs.Fixes.{Allows}
 use Rattle.answer.specs.declared.Answer.{Answer}
 use Rattle.settings.specs.declared.Look.{Look}
 use Rattle.settings.specs.declared.Settings.{Settings}
@@ -12,11 +12,11 @@ use Rattle.strip.proofs.Unique.{fetch-op}
 use Rattle.frame.proofs.Unique.{draw-op}
 use Rattle.screen.proofs.Unique.{show-op}
 use Rattle.back.proofs.Unique.{read-back-op}
-use Rattle.chip.proofs.Unique.{to-image-op, to-chip-op}
+use Rattle.transpose.proofs.Unique.{to-image-op, to-chip-op}
 use Rattle.intake.specs.declared.Intake.{Intake}
 use Rattle.intake.proofs.Unique.{settings-of-op}
-use Rattle.wording.specs.declared.Text.{Text}
-use Rattle.wording.proofs.Unique.{report-op}
+use Rattle.report_text.specs.declared.Text.{Text}
+use Rattle.report_text.proofs.Unique.{report-op}
 
 -- a lent buffer
 abbrev pub Lent : Type 0

@@ -7,11 +7,11 @@ use mathlib.Core.List.{List}
 use contract.Lifetimes.{Lfts}
 use denote.Ref.{now}
 use lib.ListN.{length, getD, take}
-use Rattle.paper.specs.Told.{Told}
+use Rattle.promises.specs.Told.{Told}
 use Rattle.answer.specs.declared.Answer.{Answer}
 use Rattle.answer.specs.Told.{toldOf}
-use Rattle.chip.specs.Chip.{chipFits, chipTold, chipAfter, chipPlace}
-use Rattle.chip.proofs.Twice.{keeps, inverse, byte-from, byte-to, done-again, twice}
+use Rattle.transpose.specs.Chip.{chipFits, chipTold, chipAfter, chipPlace}
+use Rattle.transpose.proofs.Twice.{keeps, inverse, byte-from, byte-to, done-again, twice}
 use Rattle.claims.proofs.Calls.{Lent, ToImage, ToChip}
 
 -- no place is lost: each place of what is lent is that of an address in it, which is where the map leads from the place

@@ -1,5 +1,5 @@
 -- Demand 1. "Every entry point takes all bytes and numbers, ends, and refuses bad input by itself, with a number and a place, writing no
--- lent byte. A success writes only the part that is named." That every input is taken is `all-fix` of Operations; that each call ends comes
+-- lent byte. A success writes only the part that is named." That every input is taken is said in Operations; that each call ends comes
 -- with the proof of its function.
 use Prim.Native.Nat.{ℕ, _^_, _≤_, _<_}
 use mathlib.Core.Path.{_≡_, refl, ap, _∙_}
@@ -11,11 +11,11 @@ use denote.Ref.{now}
 use lib.Dec.{T, eqb}
 use lib.ListN.{length, getD}
 use borrow.Author.Tests.{eqb-true, eqb-false}
-use Rattle.paper.specs.Told.{Told, done}
-use Rattle.paper.specs.Order.{Check, firstOf, HoldsFirst, NoneHolds, areRefusals}
-use Rattle.paper.specs.Written.{written}
-use Rattle.paper.proofs.Orders.{given-when, done-when}
-use Rattle.paper.proofs.Fills.{written-fills}
+use Rattle.promises.specs.Told.{Told, done}
+use Rattle.promises.specs.Order.{Check, firstOf, HoldsFirst, NoneHolds, areRefusals}
+use Rattle.promises.specs.Written.{written}
+use Rattle.promises.proofs.Orders.{given-when, done-when}
+use Rattle.promises.proofs.Fills.{written-fills}
 use Rattle.answer.specs.declared.Answer.{Answer}
 use Rattle.answer.specs.Told.{toldOf}
 use Rattle.settings.specs.declared.Look.{Look}
@@ -33,8 +33,8 @@ use Rattle.screen.proofs.Shows.{fetched, drawn, shown-done, shown-refused}
 use Rattle.back.specs.Read.{readByte}
 use Rattle.back.specs.Back.{backPixels, backOrder, backTold}
 use Rattle.back.proofs.Backs.{back-accepted, strip-done as back-done, strip-kept}
-use Rattle.chip.specs.Chip.{chipOrder, chipTold, chipAfter, crossedByte}
-use Rattle.chip.proofs.Answers.{accepted as chip-accepted, room-done, room-refused}
+use Rattle.transpose.specs.Chip.{chipOrder, chipTold, chipAfter, transposedByte}
+use Rattle.transpose.proofs.Answers.{accepted as chip-accepted, room-done, room-refused}
 use Rattle.intake.specs.declared.Intake.{Intake}
 use Rattle.intake.specs.Intake.{intakeOrder, intakeTold, noSettings}
 use Rattle.intake.proofs.Judges.{given-refused}
@@ -43,10 +43,10 @@ use Rattle.grammar.specs.Given.{padded, fieldsIn, noFields, sheetOrder, lineAt}
 use Rattle.grammar.proofs.Parts.{sheet-told, refused-fields}
 use Rattle.sheet.specs.declared.Sheet.{Sheet}
 use Rattle.sheet.proofs.Annotations.{Reads, Deed, Line, Tail, deed-holds, line-holds, tail-holds}
-use Rattle.wording.specs.declared.Text.{Text}
-use Rattle.wording.specs.Words.{held}
-use Rattle.wording.specs.Report.{statusLine}
-use Rattle.wording.proofs.Fits.{holds-report, begins-with-status}
+use Rattle.report_text.specs.declared.Text.{Text}
+use Rattle.report_text.specs.Words.{held}
+use Rattle.report_text.specs.Report.{statusLine}
+use Rattle.report_text.proofs.Fits.{holds-report, begins-with-status}
 use Rattle.claims.proofs.Calls.{Lent, Plays, Fetches, Draws, Shows, ReadsBack, ToImage, ToChip, TakesIn, Reports}
 
 -- what is told is what the order says: each number exactly when its condition holds and none earlier does, done exactly when none does
@@ -79,7 +79,7 @@ guarded {told} g named old {new} wrote left = by (eqb (told .number) 0) refl
         let e = left (eqb-false (told .number) 0 t) in
         record { refused = λ no. e; long = rw e; past = λ k h. rw e }
 
--- play is lent nothing that it could write
+-- `play` is lent no buffer to write to, so that the order is all there is to say
 pub play-demand : (κs : Lfts 1) (word : ℕ) (writes : Lent) (z : Answer) → Plays κs word writes z
     → Ordered (toldOf z) (playOrder word (now writes)) (played word (now writes))
 unfolding playTold
@@ -143,7 +143,7 @@ chip-demand : (k : ℕ) (lent room : Lent) (z : Answer) (out : List ℕ) → (to
 unfolding chipTold
 chip-demand k lent room z out p = (
   ordered (chipOrder k (length (now lent)) (length (now room))) 0 tt (p .0),
-  guarded (crossedByte (2 ^ k) (now lent)) (length (now lent)) (now room)
+  guarded (transposedByte (2 ^ k) (now lent)) (length (now lent)) (now room)
       (λ e. let d = rw (p .0) at e in (chip-accepted k (length (now lent)) (length (now room)) d .1, p .1 ∙ room-done k (now lent) (now room) d))
       (λ no. p .1 ∙ room-refused k (now lent) (now room) (λ e. no (rw (p .0) e))),
 )
@@ -156,7 +156,7 @@ pub to-chip-demand : (κs : Lfts 2) (k : ℕ) (image chip : Lent) (z : Answer) (
     → Ordered (toldOf z) (chipOrder k (length (now image)) (length (now chip))) 0 × Guarded (toldOf z) (length (now image)) (now chip) out
 to-chip-demand κs k image chip z out p = chip-demand k image chip z out p
 
--- the settings of a sheet: 11, 10, 1, 2, 4; a refusal gives none. It is lent nothing that it could write
+-- the settings of a sheet: 11, 10, 1, 2, 4; a refusal gives none. `settings_of` is lent no buffer to write to
 pub settings-demand : (κs : Lfts 1) (sheet : Lent) (z : Intake) → TakesIn κs sheet z
     → Ordered (toldOf (z .answer)) (intakeOrder (now sheet)) 0 × ((toldOf (z .answer) .number ≡ 0 → ⊥) → z .settings ≡ noSettings)
 unfolding intakeTold

@@ -14,12 +14,12 @@ use borrow.Author.Tests.{ltb-true, lt-ltb, le-ltb}
 use lib.Arith.{digits-div, digits-mod}
 use lib.Dec.{ltb}
 use lib.ListN.{length, getD}
-use Rattle.paper.specs.Told.{Told, told, done}
-use Rattle.paper.specs.Choose.{choose}
-use Rattle.paper.specs.Order.{firstOf}
-use Rattle.paper.specs.Written.{Bytes}
-use Rattle.paper.proofs.Orders.{done-says}
-use Rattle.paper.proofs.Fills.{written-fills}
+use Rattle.promises.specs.Told.{Told, told, done}
+use Rattle.promises.specs.Choose.{choose}
+use Rattle.promises.specs.Order.{firstOf}
+use Rattle.promises.specs.Written.{Bytes}
+use Rattle.promises.proofs.Orders.{done-says}
+use Rattle.promises.proofs.Fills.{written-fills}
 use Rattle.answer.specs.declared.Answer.{Answer}
 use Rattle.answer.specs.Told.{toldOf}
 use Rattle.settings.specs.declared.Look.{Look}
@@ -53,10 +53,10 @@ use Rattle.sheet.proofs.Annotations.{Reads, Deed, Line, Tail, joined, line-hold
 use Rattle.intake.specs.Intake.{intakeTold, settingsIn}
 use Rattle.intake.specs.declared.Intake.{Intake}
 use Rattle.intake.proofs.Judges.{given-done}
-use Rattle.wording.specs.declared.Text.{Text}
-use Rattle.wording.specs.Words.{held}
-use Rattle.wording.specs.Report.{reportOf}
-use Rattle.wording.proofs.Fits.{holds-report, ends-with-lines}
+use Rattle.report_text.specs.declared.Text.{Text}
+use Rattle.report_text.specs.Words.{held}
+use Rattle.report_text.specs.Report.{reportOf}
+use Rattle.report_text.proofs.Fits.{holds-report, ends-with-lines}
 use Rattle.claims.proofs.Calls.{Lent, Plays, Fetches, Draws, Shows, ReadsBack, TakesIn, Reports}
 
 -- the answer is done

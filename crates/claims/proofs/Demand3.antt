@@ -9,7 +9,7 @@ use mathlib.Core.Logic.{_↔_}
 use contract.Lifetimes.{Lfts}
 use denote.Ref.{now}
 use lib.ListN.{length, getD}
-use Rattle.paper.specs.Written.{Bytes}
+use Rattle.promises.specs.Written.{Bytes}
 use Rattle.answer.specs.declared.Answer.{Answer}
 use Rattle.answer.proofs.Answers.{one-answer}
 use Rattle.settings.specs.declared.Settings.{Settings}

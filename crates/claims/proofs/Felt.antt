@@ -8,8 +8,8 @@ use native.Mathlib.Omega.{arith}
 use contract.Lifetimes.{Lfts}
 use denote.Ref.{now}
 use lib.Dec.{eqb, ltb}
-use Rattle.paper.specs.Choose.{choose}
-use Rattle.paper.proofs.Tables.{Each}
+use Rattle.promises.specs.Choose.{choose}
+use Rattle.promises.proofs.Tables.{Each}
 use Rattle.answer.specs.declared.Answer.{Answer}
 use Rattle.answer.proofs.Answers.{one-answer}
 use Rattle.settings.specs.declared.Look.{Look}

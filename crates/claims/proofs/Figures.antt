@@ -2,8 +2,8 @@
 use Prim.Native.Nat.{ℕ, zero, suc}
 use mathlib.Core.List.{List, [], _∷_, _++_}
 use lib.Dec.{T}
-use Rattle.paper.specs.Told.{Told}
-use Rattle.paper.specs.Figure.{Figure, figure, allRight}
+use Rattle.promises.specs.Told.{Told}
+use Rattle.promises.specs.Figure.{Figure, figure, allRight}
 use Rattle.settings.specs.Fields.{lookOf, settingsOf}
 use Rattle.settings.specs.Modes.{width, dots as elementDots}
 use Rattle.counter.specs.Counter.{addressOf, lineStart, bytesOn, advance, carry, fall, clear, start}

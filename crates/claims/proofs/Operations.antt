@@ -1,7 +1,7 @@
 -- Every public operation of every library, in one list: its contract, as the source has it, takes every input and allows one outcome.
 use mathlib.Core.Path.{_≡_, refl}
 use mathlib.Core.List.{List, [], _∷_, map}
-use Rattle.paper.specs.Fixes.{Operation, AllFix, none, _&_}
+use Rattle.promises.specs.Fixes.{Fixed, fixed}
 use Rattle.answer.proofs.Unique as answer
 use Rattle.buffer.proofs.Unique as buffer
 use Rattle.settings.proofs.Unique as settings
@@ -11,120 +11,78 @@ use Rattle.strip.proofs.Unique as strip
 use Rattle.frame.proofs.Unique as frame
 use Rattle.screen.proofs.Unique as screen
 use Rattle.back.proofs.Unique as back
-use Rattle.chip.proofs.Unique as chip
-use Rattle.outline.proofs.Unique as outline
+use Rattle.transpose.proofs.Unique as transpose
+use Rattle.scan.proofs.Unique as scan
 use Rattle.sheet.proofs.Unique as sheet
 use Rattle.intake.proofs.Unique as intake
-use Rattle.wording.proofs.Unique as wording
-use Rattle.printing.proofs.Unique as printing
+use Rattle.report_text.proofs.Unique as report-text
+use Rattle.trial.proofs.Unique as trial
 
-abbrev pub operations : List Operation
+-- each operation with the theorem that it is fixed
+pub operations : List Fixed
 operations =
-    answer.number-op
-    ∷ answer.place-op
-    ∷ answer.value-op
-    ∷ answer.check-op
-    ∷ buffer.store-op
-    ∷ settings.video-mode-op
-    ∷ settings.offset-op
-    ∷ settings.graphics-op
-    ∷ settings.gm-op
-    ∷ settings.css-op
-    ∷ settings.width-op
-    ∷ settings.dots-op
-    ∷ settings.border-op
-    ∷ settings.mode-name-op
-    ∷ settings.strip-length-op
-    ∷ settings.pins-above-op
-    ∷ settings.external-text-op
-    ∷ settings.text-back-op
-    ∷ settings.fast-rate-op
-    ∷ settings.image-length-op
-    ∷ settings.font-length-op
-    ∷ settings.short-strip-op
-    ∷ settings.short-frame-op
-    ∷ control.play-op
-    ∷ counter.first-op
-    ∷ counter.pass-op
-    ∷ counter.step-op
-    ∷ counter.line-end-op
-    ∷ strip.fetch-op
-    ∷ frame.draw-op
-    ∷ screen.show-op
-    ∷ back.read-back-op
-    ∷ chip.to-image-op
-    ∷ chip.to-chip-op
-    ∷ outline.survey-op
-    ∷ outline.annotation-op
-    ∷ sheet.read-op
-    ∷ sheet.deed-op
-    ∷ sheet.annotation-op
-    ∷ sheet.tail-op
-    ∷ intake.settings-of-op
-    ∷ wording.report-op
-    ∷ printing.say-op
-    ∷ printing.form-op
-    ∷ printing.one-op
-    ∷ printing.number-and-place-op
-    ∷ printing.told-op
-    ∷ printing.quoted-op
+    fixed answer.number-fixes
+    ∷ fixed answer.place-fixes
+    ∷ fixed answer.value-fixes
+    ∷ fixed answer.check-fixes
+    ∷ fixed buffer.store-fixes
+    ∷ fixed settings.video-mode-fixes
+    ∷ fixed settings.offset-fixes
+    ∷ fixed settings.graphics-fixes
+    ∷ fixed settings.gm-fixes
+    ∷ fixed settings.css-fixes
+    ∷ fixed settings.width-fixes
+    ∷ fixed settings.dots-fixes
+    ∷ fixed settings.border-fixes
+    ∷ fixed settings.mode-name-fixes
+    ∷ fixed settings.strip-length-fixes
+    ∷ fixed settings.pins-above-fixes
+    ∷ fixed settings.external-text-fixes
+    ∷ fixed settings.text-back-fixes
+    ∷ fixed settings.fast-rate-fixes
+    ∷ fixed settings.image-length-fixes
+    ∷ fixed settings.font-length-fixes
+    ∷ fixed settings.short-strip-fixes
+    ∷ fixed settings.short-frame-fixes
+    ∷ fixed control.play-fixes
+    ∷ fixed counter.start-fixes
+    ∷ fixed counter.carry-fixes
+    ∷ fixed counter.advance-fixes
+    ∷ fixed counter.clear-fixes
+    ∷ fixed strip.fetch-fixes
+    ∷ fixed frame.draw-fixes
+    ∷ fixed screen.show-fixes
+    ∷ fixed back.read-back-fixes
+    ∷ fixed transpose.to-image-fixes
+    ∷ fixed transpose.to-chip-fixes
+    ∷ fixed scan.survey-fixes
+    ∷ fixed scan.annotation-fixes
+    ∷ fixed sheet.read-fixes
+    ∷ fixed sheet.deed-fixes
+    ∷ fixed sheet.annotation-fixes
+    ∷ fixed sheet.tail-fixes
+    ∷ fixed intake.settings-of-fixes
+    ∷ fixed report-text.report-fixes
+    ∷ fixed trial.look-of-fixes
+    ∷ fixed trial.settings-of-fixes
+    ∷ fixed trial.least-fixes
+    ∷ fixed trial.cut-fixes
+    ∷ fixed trial.byte-at-fixes
+    ∷ fixed trial.lay-fixes
+    ∷ fixed trial.mark-fixes
+    ∷ fixed trial.unchanged-from-fixes
+    ∷ fixed trial.sum-fixes
+    ∷ fixed trial.say-fixes
+    ∷ fixed trial.form-fixes
+    ∷ fixed trial.one-fixes
+    ∷ fixed trial.figure-name-fixes
+    ∷ fixed trial.number-and-place-fixes
+    ∷ fixed trial.answered-fixes
+    ∷ fixed trial.quoted-fixes
     ∷ []
 
--- each of them takes every input and fixes its outcome
-pub all-fix : AllFix operations
-all-fix =
-    answer.number-fixes
-    & answer.place-fixes
-    & answer.value-fixes
-    & answer.check-fixes
-    & buffer.store-fixes
-    & settings.video-mode-fixes
-    & settings.offset-fixes
-    & settings.graphics-fixes
-    & settings.gm-fixes
-    & settings.css-fixes
-    & settings.width-fixes
-    & settings.dots-fixes
-    & settings.border-fixes
-    & settings.mode-name-fixes
-    & settings.strip-length-fixes
-    & settings.pins-above-fixes
-    & settings.external-text-fixes
-    & settings.text-back-fixes
-    & settings.fast-rate-fixes
-    & settings.image-length-fixes
-    & settings.font-length-fixes
-    & settings.short-strip-fixes
-    & settings.short-frame-fixes
-    & control.play-fixes
-    & counter.first-fixes
-    & counter.pass-fixes
-    & counter.step-fixes
-    & counter.line-end-fixes
-    & strip.fetch-fixes
-    & frame.draw-fixes
-    & screen.show-fixes
-    & back.read-back-fixes
-    & chip.to-image-fixes
-    & chip.to-chip-fixes
-    & outline.survey-fixes
-    & outline.annotation-fixes
-    & sheet.read-fixes
-    & sheet.deed-fixes
-    & sheet.annotation-fixes
-    & sheet.tail-fixes
-    & intake.settings-of-fixes
-    & wording.report-fixes
-    & printing.say-fixes
-    & printing.form-fixes
-    & printing.one-fixes
-    & printing.number-and-place-fixes
-    & printing.told-fixes
-    & printing.quoted-fixes
-    & none
-
 -- the functions that the list is of, by the names that the compiler has for them
-pub named : map (λ o. o .key) operations
+pub named : map (λ o. o .operation .key) operations
     ≡ "answer::number"
     ∷ "answer::place"
     ∷ "answer::value"
@@ -149,29 +107,40 @@ pub named : map (λ o. o .key) operations
     ∷ "settings::short_strip"
     ∷ "settings::short_frame"
     ∷ "control::play"
-    ∷ "counter::first"
-    ∷ "counter::Counter::pass"
-    ∷ "counter::Counter::step"
-    ∷ "counter::Counter::line_end"
+    ∷ "counter::start"
+    ∷ "counter::Counter::carry"
+    ∷ "counter::Counter::advance"
+    ∷ "counter::Counter::clear"
     ∷ "strip::fetch"
     ∷ "frame::draw"
     ∷ "screen::show"
     ∷ "back::read_back"
-    ∷ "chip::to_image"
-    ∷ "chip::to_chip"
-    ∷ "outline::survey"
-    ∷ "outline::annotation"
+    ∷ "transpose::to_image"
+    ∷ "transpose::to_chip"
+    ∷ "scan::survey"
+    ∷ "scan::annotation"
     ∷ "sheet::read"
     ∷ "sheet::deed"
     ∷ "sheet::annotation"
     ∷ "sheet::tail"
     ∷ "intake::settings_of"
-    ∷ "wording::report"
-    ∷ "printing::say"
-    ∷ "printing::form"
-    ∷ "printing::one"
-    ∷ "printing::number_and_place"
-    ∷ "printing::told"
-    ∷ "printing::quoted"
+    ∷ "report_text::report"
+    ∷ "trial::look_of"
+    ∷ "trial::settings_of"
+    ∷ "trial::least"
+    ∷ "trial::cut"
+    ∷ "trial::byte_at"
+    ∷ "trial::lay"
+    ∷ "trial::mark"
+    ∷ "trial::unchanged_from"
+    ∷ "trial::sum"
+    ∷ "trial::say"
+    ∷ "trial::form"
+    ∷ "trial::one"
+    ∷ "trial::figure_name"
+    ∷ "trial::number_and_place"
+    ∷ "trial::answered"
+    ∷ "trial::quoted"
     ∷ []
+unfolding operations
 named = refl

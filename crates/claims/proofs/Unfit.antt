@@ -10,10 +10,10 @@ use denote.Ref.{now}
 use lib.ListN.{length, getD, set, replicate, length-set, length-replicate, getD-replicate}
 use lib.Seq.{getD-set-same, getD-set-other}
 use borrow.Author.Tests.{le-ltb}
-use Rattle.paper.specs.Told.{Told}
-use Rattle.paper.specs.Order.{NoneHolds}
-use Rattle.paper.specs.Written.{Bytes}
-use Rattle.paper.proofs.Firsts.{first-none}
+use Rattle.promises.specs.Told.{Told}
+use Rattle.promises.specs.Order.{NoneHolds}
+use Rattle.promises.specs.Written.{Bytes}
+use Rattle.promises.proofs.Firsts.{first-none}
 use Rattle.answer.specs.declared.Answer.{Answer}
 use Rattle.settings.specs.declared.Look.{Look}
 use Rattle.settings.specs.declared.Settings.{Settings}
@@ -35,7 +35,7 @@ use Rattle.back.specs.Stray.{shows as isShown, leftmost, stray, firstStray}
 use Rattle.back.specs.Back.{backPixels, backOrder}
 use Rattle.back.proofs.Backs.{back-accepted, strip-done as back-done}
 use Rattle.back.proofs.RoundTrip.{written-reads}
-use Rattle.chip.specs.Chip.{chipOrder, chipPlace}
+use Rattle.transpose.specs.Chip.{chipOrder, chipPlace}
 use Rattle.grammar.specs.Given.{sheetOrder}
 use Rattle.grammar.proofs.Length.{one-as-long}
 use Rattle.sheet.specs.declared.Sheet.{Sheet}
@@ -111,8 +111,8 @@ some-read-back = (refl, (refl, (refl, (refl, (le-ltb (firstStray (lookOf 0x20) (
 pub some-sheet : (s : List ℕ) × NoneHolds (sheetOrder s)
 some-sheet = (one-as-long .0, (rw (one-as-long .1) refl, tt))
 
-pub some-crossed : NoneHolds (chipOrder 6 4096 4096) × NoneHolds (chipOrder 7 32768 32768) × NoneHolds (chipOrder 8 65536 65536)
-some-crossed = ((refl, (refl, tt)), (refl, (refl, tt)), (refl, (refl, tt)))
+pub some-transposed : NoneHolds (chipOrder 6 4096 4096) × NoneHolds (chipOrder 7 32768 32768) × NoneHolds (chipOrder 8 65536 65536)
+some-transposed = ((refl, (refl, tt)), (refl, (refl, tt)), (refl, (refl, tt)))
 
 -- ==== A tool that draws one frame for all. In graphics, strips that differ in a byte give frames that differ,
 pub not-one-frame : (κs κs′ : Lfts 3) (l : Look) (font strip strip′ frame frame′ : Lent) (z z′ : Answer) (out out′ : List ℕ)

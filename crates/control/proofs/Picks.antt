@@ -7,8 +7,8 @@ use native.Mathlib.Omega.{arith}
 use lib.Arith.{lt-of-le-ne}
 use lib.Dec.{leb}
 use borrow.Author.Tests.{lt-leb, le-leb, leb-true}
-use Rattle.paper.specs.Choose.{choose}
-use Rattle.paper.proofs.Choices.{both-pass}
+use Rattle.promises.specs.Choose.{choose}
+use Rattle.promises.proofs.Choices.{both-pass}
 use Rattle.control.specs.Control.{isControl, bitOf, valueOf}
 
 -- bit and value are those of the address

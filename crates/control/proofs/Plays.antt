@@ -1,4 +1,4 @@
--- A turn of `play`: what the whole list comes to is what the rest comes to from here.
+-- The loop of `play`: the word after the whole list is the word after the rest of it, played from what the loop has so far.
 use Prim.Native.Nat.{ℕ, suc, _+_, _-_, _/_, _%_, _^_, _≤_, _<_}
 use mathlib.Core.Path.{_≡_, refl, ap, _∙_}
 use mathlib.Core.Bool.{Bool, true, false}
@@ -9,10 +9,10 @@ use native.Mathlib.Omega.{arith}
 use borrow.Author.Tests.{lt-ltb, le-ltb, ltb-false}
 use lib.ListN.{length, drop, getD, drop-of-length-le}
 use lib.Seq.{drop-cons}
-use Rattle.paper.specs.Choose.{choose}
-use Rattle.paper.specs.Told.{told, done}
-use Rattle.paper.proofs.Choices.{of-both}
-use Rattle.paper.proofs.Orders.{done-when, done-says}
+use Rattle.promises.specs.Choose.{choose}
+use Rattle.promises.specs.Told.{told, done}
+use Rattle.promises.proofs.Choices.{of-both}
+use Rattle.promises.proofs.Orders.{done-when, done-says}
 use Rattle.control.specs.Control.{withBit, isControl, wordAfter, played, firstElsewhere, playOrder, playTold}
 use Rattle.control.proofs.Picks.{Control, in-word}
 use Rattle.control.proofs.Masks.{with-bit-small}

@@ -1,14 +1,12 @@
 -- Every public operation of `control`: its contract, as the source has it, takes every input and allows one outcome.
 use mathlib.Core.Path.{refl}
 use base.Logic.{emp, id⊢}
-use Rattle.paper.specs.Fixes.{Operation, Fixes, whole, one-tells}
+use Rattle.promises.specs.Fixes.{Operation, Fixes, whole, one-tells}
 use Rattle.answer.proofs.Answers.{one-answer}
-use Rattle.control.proofs.play.{ended as play-ended, clauses as play-clauses}
-use Rattle.control.proofs.play.Key.{name as #play}
-use Rattle.control.proofs.play.Reads as play
+use Rattle.control.proofs.play as play
 
 abbrev pub play-op : Operation
-play-op = record { key = #play; T = play-ended; clauses = λ M. play-clauses; Says = play.Learnt; O = _; seen = λ κs. whole }
+play-op = record { key = play.Key.name; T = play.ended; clauses = λ M. play.clauses; Says = play.Reads.Learnt; O = _; seen = λ κs. whole }
 
 pub play-fixes : Fixes play-op
 play-fixes = record {

@@ -4,9 +4,9 @@ use mathlib.Core.Bool.{Bool, _&&_}
 use mathlib.Core.List.{List, [], _∷_}
 use lib.Dec.{leb, ltb}
 use lib.ListN.{length}
-use Rattle.paper.specs.Choose.{choose}
-use Rattle.paper.specs.Told.{Told, told, done}
-use Rattle.paper.specs.Order.{Check, check, firstOf}
+use Rattle.promises.specs.Choose.{choose}
+use Rattle.promises.specs.Told.{Told, told, done}
+use Rattle.promises.specs.Order.{Check, check, firstOf}
 
 -- w with b for its bit k: the bits above k, then b, then the bits below k
 unfoldable pub withBit : ℕ → ℕ → ℕ → ℕ

@@ -1,11 +1,11 @@
--- The counter does not feel where the window starts: a start elsewhere, in steps of 512, shifts every address by wrap.
+-- The counter counts alike wherever the window starts: a start that is so many steps of 512 further on shifts every address by as much, with wrap.
 use Prim.Native.Nat.{ℕ, zero, suc, _+_, _-_, _*_, _/_, _%_, _^_, _<_}
 use mathlib.Core.Path.{_≡_, refl, sym, ap, _∙_}
 use native.Mathlib.Nat.{mod-add-mod, mod-eq-of-lt}
 use native.Mathlib.Omega.{arith}
 use borrow.Author.Tests.{eqb-false}
 use lib.Dec.{eqb, ltb}
-use Rattle.paper.proofs.Choices.{by-test}
+use Rattle.promises.proofs.Choices.{by-test}
 use Rattle.settings.specs.declared.Settings.{Settings}
 use Rattle.settings.specs.Fields.{videoMode, offset}
 use Rattle.settings.specs.Modes.{width}

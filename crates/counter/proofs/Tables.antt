@@ -10,8 +10,8 @@ use lib.ListN.{getD}
 use borrow.Author.Tests.{ne-eqb}
 use mir.Val.{hasKey}
 use types.Run.{OneOf, hit}
-use Rattle.paper.proofs.Choices.{by-test}
-use Rattle.paper.proofs.Tables.{each-below, each}
+use Rattle.promises.proofs.Choices.{by-test}
+use Rattle.promises.proofs.Tables.{each-below, each}
 use Rattle.settings.specs.declared.Settings.{Settings}
 use Rattle.settings.specs.Fields.{videoMode}
 use Rattle.counter.specs.Counter.{timesX, timesY, keptFrom, divX, divY, kept}
@@ -37,7 +37,7 @@ cleared-le s a = by-kept s (λ k. a / 2 ^ k * 2 ^ k + a % 2 ≤ a) (omega arith)
 pub shifted : (s : Settings) (a : ℕ) → a < 2 ^ 16 → a / 2 ^ kept s * 2 ^ kept s % 65536 ≡ a / 2 ^ kept s * 2 ^ kept s
 shifted s a h = mod-eq-of-lt (omega (arith, cleared-le s a))
 
--- ---- the tables past the numbers that a choice names, each by one computed test
+-- ---- what the tables say of the numbers that no arm of the code's `match` names, each by one computed test
 pub x-rest : (v : ℕ) → v < 8 → (v ≡ 1 → ⊥) → (v ≡ 3 → ⊥) → 1 ≡ getD timesX v 0
 x-rest v h p q =
     eqb→eq 1 (getD timesX v 0) (rw (ne-eqb v 1 p, ne-eqb v 3 q) at (each-below (λ n. eqb n 1 || (eqb n 3 || eqb 1 (getD timesX n 0))) 8 tt v h))
@@ -46,7 +46,7 @@ pub y-rest : (v : ℕ) → v < 8 → (v ≡ 0 → ⊥) → (v ≡ 2 → ⊥) →
 y-rest v h p q r =
     eqb→eq 1 (getD timesY v 0) (rw (ne-eqb v 0 p, ne-eqb v 2 q, ne-eqb v 4 r) at (each-below (λ n. eqb n 0 || (eqb n 2 || (eqb n 4 || eqb 1 (getD timesY n 0)))) 8 tt v h))
 
--- here an arm names several
+-- of arms that name several numbers
 no-key : (ks : List ℕ) (v : ℕ) → (OneOf ks v → ⊥) → hasKey ks v ≡ false
 no-key ks v n = by-test (hasKey ks v) (λ e. absurd (n (hit ks v (rw e tt)))) (λ e. e)
 

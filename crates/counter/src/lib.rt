@@ -12,7 +12,7 @@ pub struct Counter {
     pub y: u8,
 }
 
-// X, Y and the lowest bit that a line's end keeps above B0, by V2-V0. Written as choices, so that none is laid out anew at each run.
+// X, Y and the lowest bit that a line's end keeps above B0, by V2-V0. Each is a `match`, since a constant array is built anew wherever it is indexed.
 fn times_x(v: usize) -> usize
     requires { ⌜ v < 8 ⌝ }
     ensures { λ r. ⌜ r ≡ getD timesX v 0 ⌝ }
@@ -48,7 +48,7 @@ fn kept_from(v: usize) -> u16
 }
 
 // The counter before a frame's first byte.
-pub fn first(settings: Settings) -> Counter
+pub fn start(settings: Settings) -> Counter
     ensures { λ r. ⌜ r ≡ start settings ⌝ }
 {
     Counter {
@@ -60,7 +60,7 @@ pub fn first(settings: Settings) -> Counter
 
 impl Counter {
     // The counter where B0-B3 pass 15: they return to 0, and the dividers count.
-    pub fn pass(self, settings: Settings) -> Counter
+    pub fn carry(self, settings: Settings) -> Counter
         ensures { λ r. ⌜ r ≡ carry settings self ⌝ }
     {
         let v = settings::video_mode(settings);
@@ -83,7 +83,7 @@ impl Counter {
                 y: y,
             };
         }
-        // B4 falls. Written out: a call that hands back a counter packs it, which makes fetching slower
+        // B4 falls. This is no function of its own: a counter that a call returns is packed, which makes fetching slower
         if (y as usize) + 1 < times_y(v) {
             return Counter {
                 address: run - 16,
@@ -99,12 +99,12 @@ impl Counter {
     }
 
     // The counter after one byte.
-    pub fn step(self, settings: Settings) -> Counter
+    pub fn advance(self, settings: Settings) -> Counter
         ensures { λ r. ⌜ r ≡ advance settings self ⌝ }
     {
         let address = self.address;
         if address % 16 == 15 {
-            return self.pass(settings);
+            return self.carry(settings);
         }
         Counter {
             address: std::num::wrapping_add_u16(address, 1),
@@ -114,7 +114,7 @@ impl Counter {
     }
 
     // The counter after a line's last byte.
-    pub fn line_end(self, settings: Settings) -> Counter
+    pub fn clear(self, settings: Settings) -> Counter
         ensures { λ r. ⌜ r ≡ clear settings self ⌝ }
     {
         let v = settings::video_mode(settings);

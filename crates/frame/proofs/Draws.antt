@@ -7,12 +7,12 @@ use native.Mathlib.Omega.{arith}
 use lib.Dec.{eqb, ltb}
 use lib.ListN.{length, getD}
 use borrow.Author.Tests.{le-ltb, eqb-true, ltb-false}
-use Rattle.paper.specs.Told.{Told, done}
-use Rattle.paper.specs.Order.{Check, firstOf}
-use Rattle.paper.specs.Written.{written, Filled}
-use Rattle.paper.proofs.Fills.{written-by, filled-written, leaves-done, leaves-refused}
-use Rattle.paper.proofs.Orders.{done-when, done-says, passing}
-use Rattle.paper.proofs.Later.{first-refuses, first-passes, first-done}
+use Rattle.promises.specs.Told.{Told, done}
+use Rattle.promises.specs.Order.{Check, firstOf}
+use Rattle.promises.specs.Written.{written, Filled}
+use Rattle.promises.proofs.Fills.{written-by, filled-written, leaves-done, leaves-refused}
+use Rattle.promises.proofs.Orders.{done-when, done-says, passing}
+use Rattle.promises.proofs.Later.{first-refuses, first-passes, first-done}
 use Rattle.settings.specs.declared.Look.{Look}
 use Rattle.settings.specs.Fields.{graphics}
 use Rattle.settings.specs.Modes.{border, fontSize}

@@ -7,8 +7,8 @@ use native.Mathlib.Omega.{arith}
 use lib.Bits.{bitAnd, and-mask}
 use lib.Dec.{eqb}
 use lib.ListN.{getD}
-use Rattle.paper.specs.Choose.{choose}
-use Rattle.paper.specs.Written.{Filled}
+use Rattle.promises.specs.Choose.{choose}
+use Rattle.promises.specs.Written.{Filled}
 use Rattle.settings.specs.declared.Look.{Look}
 use Rattle.settings.specs.Fields.{graphics}
 use Rattle.pixel.specs.Dots.{black, bit, oneBit}

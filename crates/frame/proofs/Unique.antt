@@ -1,14 +1,12 @@
 -- Every public operation of `frame`: its contract, as the source has it, takes every input and allows one outcome.
 use mathlib.Core.Path.{sym, _∙_}
 use base.Logic.{emp, id⊢}
-use Rattle.paper.specs.Fixes.{Operation, Fixes, whole, two-tell}
+use Rattle.promises.specs.Fixes.{Operation, Fixes, whole, two-tell}
 use Rattle.answer.proofs.Answers.{one-answer}
-use Rattle.frame.proofs.draw.{ended as draw-ended, clauses as draw-clauses}
-use Rattle.frame.proofs.draw.Key.{name as #draw}
-use Rattle.frame.proofs.draw.Reads as draw
+use Rattle.frame.proofs.draw as draw
 
 abbrev pub draw-op : Operation
-draw-op = record { key = #draw; T = draw-ended; clauses = λ M. draw-clauses; Says = draw.Learnt; O = _; seen = λ κs. whole }
+draw-op = record { key = draw.Key.name; T = draw.ended; clauses = λ M. draw.clauses; Says = draw.Reads.Learnt; O = _; seen = λ κs. whole }
 
 pub draw-fixes : Fixes draw-op
 draw-fixes = record {

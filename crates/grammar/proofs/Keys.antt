@@ -8,7 +8,7 @@ use mathlib.Core.Bool.{Bool, true, false, _||_}
 use borrow.Author.Tests.{eqb-true, not-false}
 use lib.Dec.{eqb}
 use lib.ListN.{length, length-append}
-use Rattle.paper.proofs.Choices.{either}
+use Rattle.promises.proofs.Choices.{either}
 use Rattle.text.specs.Combine.{All, closed}
 use Rattle.text.proofs.Tests.{clash, and-split}
 use Rattle.grammar.specs.Sheet.{keyByte, deedWord, pinsWord, writesWord, atWord, same, free}

@@ -14,7 +14,7 @@ use Rattle.text.proofs.Lists.{le-or-lt}
 use Rattle.text.proofs.Runs.{all-replicate}
 use Rattle.text.proofs.Hexes.{hex-length}
 use Rattle.text.proofs.Lengths.{texts-most, texts-same, valid-same}
-use Rattle.grammar.specs.Sheet.{deedByte, keyByte, valueByte, deedWord, pinsWord, writesWord, atWord, eq, nl, deedLine, pinsLine, decimal, writesLine, atLine, Annotation, ValidAnnotation, line, annotationLine, Fields, ValidSheet, front, lines, render}
+use Rattle.grammar.specs.Sheet.{deedByte, keyByte, valueByte, deedWord, pinsWord, writesWord, atWord, eq, nl, deedLine, pinsLine, countDigits, writesLine, atLine, Annotation, ValidAnnotation, line, annotationLine, Fields, ValidSheet, front, lines, render}
 use Rattle.grammar.specs.Given.{isGot, accepted, fieldsIn}
 use Rattle.grammar.proofs.Grammar.{read-back}
 use Rattle.grammar.proofs.Parts.{accepted-render}
@@ -26,11 +26,11 @@ deed-most u h = omega (arith, length-append (deedWord ++ eq) (u ++ nl), length-a
 pins-length : (v : ℕ) → length (pinsLine .text v) ≡ 8
 pins-length v = length-append (pinsWord ++ eq) (hex 2 v ++ nl) ∙ omega (arith, length-append (hex 2 v) nl, hex-length 2 v)
 
-decimal-most : (n : ℕ) → length (decimal n) ≤ 2
-decimal-most n = ⊎-elim (λ (h : 10 ≤ n). rw (le-ltb n 10 h) (le-refl 2)) (λ (h : n < 10). rw (lt-ltb n 10 h) (omega arith)) (le-or-lt 10 n)
+count-digits-most : (n : ℕ) → length (countDigits n) ≤ 2
+count-digits-most n = ⊎-elim (λ (h : 10 ≤ n). rw (le-ltb n 10 h) (le-refl 2)) (λ (h : n < 10). rw (lt-ltb n 10 h) (omega arith)) (le-or-lt 10 n)
 
 count-most : (n : ℕ) → length (writesLine .text n) ≤ 10
-count-most n = omega (arith, length-append (writesWord ++ eq) (decimal n ++ nl), length-append (decimal n) nl, decimal-most n)
+count-most n = omega (arith, length-append (writesWord ++ eq) (countDigits n ++ nl), length-append (countDigits n) nl, count-digits-most n)
 
 at-length : (v : ℕ) → length (atLine .text v) ≡ 8
 at-length v = length-append (atWord ++ eq) (hex 4 v ++ nl) ∙ omega (arith, length-append (hex 4 v) nl, hex-length 4 v)

@@ -8,13 +8,13 @@ use mathlib.Core.List.{List, [], _∷_, _++_}
 use mathlib.Core.Bool.{Bool, true, false}
 use borrow.Author.Tests.{eq-eqb, ne-eqb, leb-true, le-leb, lt-ltb, le-ltb}
 use lib.Dec.{leb, ltb}
-use Rattle.paper.specs.Choose.{choose}
+use Rattle.promises.specs.Choose.{choose}
 use Rattle.text.specs.Code.{Code, stuck, Any, Right, Prefix, Some}
 use Rattle.text.specs.Combine.{bump}
 use Rattle.text.proofs.Lists.{le-or-lt, nil-cons}
 use Rattle.text.proofs.Steps.{After, step-right, stop-right, end-right}
 use Rattle.text.proofs.Tests.{clash, and-split, and-both, between-of, between-le}
-use Rattle.grammar.specs.Sheet.{nl, decimal, countCode}
+use Rattle.grammar.specs.Sheet.{nl, countDigits, countCode}
 use Rattle.grammar.specs.Read.{digit, more, closing, readSecond, readNumber}
 
 -- the first digit's value, and what follows the first digit
@@ -49,14 +49,14 @@ countCode-after : (b : ℕ) → 48 ≤ b → After countCode b (seconds (b - 48)
 unfolding lead
 countCode-after b hb = record { valid = λ n h. h .0; text = text; back = back }
   where
-    text : (n : ℕ) → seconds (b - 48) .Valid n → decimal n ++ nl ≡ b ∷ (after1 n ++ nl)
+    text : (n : ℕ) → seconds (b - 48) .Valid n → countDigits n ++ nl ≡ b ∷ (after1 n ++ nl)
     text n h = go (size n)
       where
-        go : Size n → decimal n ++ nl ≡ b ∷ (after1 n ++ nl)
+        go : Size n → countDigits n ++ nl ≡ b ∷ (after1 n ++ nl)
         go (small k t) = rw t (ap (λ (c : ℕ). c ∷ nl) (omega (arith, rw t at (h .1))))
         go (large k t) = rw t (ap (λ (c : ℕ). c ∷ (48 + n % 10) ∷ nl) (omega (arith, rw t at (h .1))))
 
-    back : (n : ℕ) (l : List ℕ) → n ≤ 64 → decimal n ++ nl ≡ b ∷ l → (w : ℕ) × seconds (b - 48) .Valid w × (after1 w ++ nl ≡ l)
+    back : (n : ℕ) (l : List ℕ) → n ≤ 64 → countDigits n ++ nl ≡ b ∷ l → (w : ℕ) × seconds (b - 48) .Valid w × (after1 w ++ nl ≡ l)
     back n l h e = go (size n)
       where
         go : Size n → (w : ℕ) × seconds (b - 48) .Valid w × (after1 w ++ nl ≡ l)
@@ -146,7 +146,7 @@ countCode-right (b ∷ s) = go (digit b) refl
         step-right Any countCode countCode-some b (seconds (b - 48)) (λ n. n) (countCode-after b (r .0)) s (readSecond (b - 48) s) (seconds-right (b - 48) (omega arith) s)
     go false h = stop-right Any countCode countCode-some 0 zero-le b none s
       where
-        none : (n : ℕ) (l : List ℕ) → n ≤ 64 → decimal n ++ nl ≡ b ∷ l → ⊥
+        none : (n : ℕ) (l : List ℕ) → n ≤ 64 → countDigits n ++ nl ≡ b ∷ l → ⊥
         none n l k e = no-size (size n)
           where
             no-size : Size n → ⊥

@@ -10,9 +10,9 @@ use mathlib.Core.Logic.{⊎-elim}
 use borrow.Author.Tests.{lt-ltb, le-ltb}
 use lib.ListN.{length, take, drop, length-append, length-drop}
 use lib.Seq.{drop-append-seam, drop-drop, take-at}
-use Rattle.paper.specs.Choose.{choose}
-use Rattle.paper.specs.Told.{told, done}
-use Rattle.paper.specs.Order.{firstOf}
+use Rattle.promises.specs.Choose.{choose}
+use Rattle.promises.specs.Told.{told, done}
+use Rattle.promises.specs.Order.{firstOf}
 use Rattle.text.specs.Code.{Reading, got, stuck}
 use Rattle.text.specs.Combine.{AllValid, texts}
 use Rattle.text.proofs.Tests.{clash}

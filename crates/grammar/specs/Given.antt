@@ -4,9 +4,9 @@ use mathlib.Core.List.{List, [], _∷_, _++_}
 use mathlib.Core.Bool.{Bool, true, false, not}
 use lib.Dec.{ltb}
 use lib.ListN.{length, take, replicate}
-use Rattle.paper.specs.Choose.{choose}
-use Rattle.paper.specs.Told.{Told, told, done}
-use Rattle.paper.specs.Order.{Check, check}
+use Rattle.promises.specs.Choose.{choose}
+use Rattle.promises.specs.Told.{Told, told, done}
+use Rattle.promises.specs.Order.{Check, check}
 use Rattle.text.specs.Code.{Reading, got, stuck}
 use Rattle.grammar.specs.Sheet.{deedWord, eq, Annotation, Fields, line, lines, front}
 use Rattle.grammar.specs.Read.{readSheet}

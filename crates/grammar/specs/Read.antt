@@ -3,7 +3,7 @@ use Prim.Native.Nat.{ℕ, _+_, _-_, _*_}
 use mathlib.Core.List.{List, [], _∷_, _++_}
 use mathlib.Core.Bool.{Bool, _&&_}
 use lib.Dec.{leb, eqb}
-use Rattle.paper.specs.Choose.{choose}
+use Rattle.promises.specs.Choose.{choose}
 use Rattle.text.specs.Code.{Reading, got, stuck}
 use Rattle.text.specs.Combine.{mapped, bump, andThen, readLed, readClosed, readTimes, readUpTo, readOnly}
 use Rattle.text.specs.Hex.{between, readHex}

@@ -5,7 +5,7 @@ use mathlib.Core.List.{List, [], _∷_, _++_}
 use mathlib.Core.Bool.{Bool, true, false, not, _&&_, _||_}
 use lib.ListN.{length}
 use lib.Dec.{leb, ltb, eqb}
-use Rattle.paper.specs.Choose.{choose}
+use Rattle.promises.specs.Choose.{choose}
 use Rattle.text.specs.Code.{Code}
 use Rattle.text.specs.Combine.{led, All, closed, AllValid, texts, upTo}
 use Rattle.text.specs.Hex.{between, hexCode}
@@ -49,12 +49,12 @@ abbrev pub pinsLine : Code ℕ
 pinsLine = led (pinsWord ++ eq) (hexCode 2 10)
 
 -- a number below 100 in decimal without leading zero
-abbrev pub decimal : ℕ → List ℕ
-decimal n = choose (ltb n 10) ((48 + n) ∷ []) ((48 + n / 10) ∷ (48 + n % 10) ∷ [])
+abbrev pub countDigits : ℕ → List ℕ
+countDigits n = choose (ltb n 10) ((48 + n) ∷ []) ((48 + n / 10) ∷ (48 + n % 10) ∷ [])
 
 -- 0 to 64, closed by byte 10
 abbrev pub countCode : Code ℕ
-countCode = record { Valid = λ n. n ≤ 64; text = λ n. decimal n ++ nl }
+countCode = record { Valid = λ n. n ≤ 64; text = λ n. countDigits n ++ nl }
 
 -- `writes=` and the number of writes
 abbrev pub writesLine : Code ℕ

@@ -8,9 +8,9 @@ use borrow.Author.Tests.{eq-eqb, ne-eqb}
 use lib.Dec.{ltb}
 use lib.ListN.{length, take, replicate, length-append}
 use lib.Seq.{take-append-seam}
-use Rattle.paper.specs.Choose.{choose}
-use Rattle.paper.specs.Told.{Told, told, done}
-use Rattle.paper.specs.Order.{firstOf}
+use Rattle.promises.specs.Choose.{choose}
+use Rattle.promises.specs.Told.{Told, told, done}
+use Rattle.promises.specs.Order.{firstOf}
 use Rattle.answer.specs.declared.Answer.{Answer}
 use Rattle.answer.specs.Told.{toldOf}
 use Rattle.settings.specs.declared.Settings.{Settings}

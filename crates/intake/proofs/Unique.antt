@@ -1,14 +1,12 @@
 -- Every public operation of `intake`: its contract, as the source has it, takes every input and allows one outcome.
 use mathlib.Core.Path.{refl, sym, _∙_}
 use base.Logic.{emp, id⊢}
-use Rattle.paper.specs.Fixes.{Operation, Fixes, whole, one-tells}
+use Rattle.promises.specs.Fixes.{Operation, Fixes, whole, one-tells}
 use Rattle.answer.proofs.Answers.{one-answer}
-use Rattle.intake.proofs.settings_of.{ended as settings-of-ended, clauses as settings-of-clauses}
-use Rattle.intake.proofs.settings_of.Key.{name as #settings-of}
-use Rattle.intake.proofs.settings_of.Reads as settings-of
+use Rattle.intake.proofs.settings_of as settings-of
 
 abbrev pub settings-of-op : Operation
-settings-of-op = record { key = #settings-of; T = settings-of-ended; clauses = λ M. settings-of-clauses; Says = settings-of.Learnt; O = _; seen = λ κs. whole }
+settings-of-op = record { key = settings-of.Key.name; T = settings-of.ended; clauses = λ M. settings-of.clauses; Says = settings-of.Reads.Learnt; O = _; seen = λ κs. whole }
 
 pub settings-of-fixes : Fixes settings-of-op
 settings-of-fixes = record {

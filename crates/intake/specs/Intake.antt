@@ -2,9 +2,9 @@
 use Prim.Native.Nat.{ℕ}
 use mathlib.Core.List.{List, [], _∷_, _++_}
 use lib.Dec.{eqb}
-use Rattle.paper.specs.Choose.{choose}
-use Rattle.paper.specs.Told.{Told, done}
-use Rattle.paper.specs.Order.{Check, firstOf}
+use Rattle.promises.specs.Choose.{choose}
+use Rattle.promises.specs.Told.{Told, done}
+use Rattle.promises.specs.Order.{Check, firstOf}
 use Rattle.settings.specs.declared.Settings.{Settings}
 use Rattle.settings.specs.Fields.{settingsOf}
 use Rattle.settings.specs.Refusals.{pinsAbove, externalText, fastRate}

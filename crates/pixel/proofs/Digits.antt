@@ -7,7 +7,7 @@ use native.Mathlib.Nat.{pow-zero, pow-suc, pow-succ', mul-le-mul-right, suc-mul,
 use native.Mathlib.Omega.{arith}
 use lib.Arith.{digits-div, digits-mod}
 use lib.Dec.{eqb, eqb→eq}
-use Rattle.paper.proofs.Tables.{each-below}
+use Rattle.promises.proofs.Tables.{each-below}
 use Rattle.pixel.specs.Dots.{bit, twoBits, digits}
 
 pub same-digits : (r : ℕ) (g h : ℕ → ℕ) (n : ℕ) → ((j : ℕ) → j < n → g j ≡ h j) → digits r g n ≡ digits r h n

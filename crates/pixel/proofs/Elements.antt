@@ -7,9 +7,9 @@ use native.Mathlib.Omega.{arith}
 use native.Mathlib.Nat.{mod-lt, div-lt-iff-lt-mul, mul-lt-mul-of-pos-right, mul-div-cancel}
 use lib.Dec.{T, eqb, eqb→eq, lit<}
 use lib.ListN.{getD}
-use Rattle.paper.specs.Choose.{choose}
-use Rattle.paper.proofs.Choices.{of-both}
-use Rattle.paper.proofs.Tables.{each-below, each}
+use Rattle.promises.specs.Choose.{choose}
+use Rattle.promises.proofs.Choices.{of-both}
+use Rattle.promises.proofs.Tables.{each-below, each}
 use Rattle.settings.specs.declared.Look.{Look}
 use Rattle.settings.specs.Fields.{graphics, gm, gm0}
 use Rattle.settings.specs.Modes.{widths, elements, width, dots}

@@ -3,7 +3,7 @@ use Prim.Native.Nat.{ℕ, zero, suc}
 use mathlib.Core.List.{List, [], _∷_, _++_}
 use lib.Dec.{T}
 use lib.ListN.{replicate}
-use Rattle.paper.specs.Figure.{Figure, figure, allRight}
+use Rattle.promises.specs.Figure.{Figure, figure, allRight}
 use Rattle.settings.specs.Fields.{lookOf}
 use Rattle.pixel.specs.Dots.{bit, oneBit}
 use Rattle.pixel.specs.Text.{pattern, inverted, letter, block, lit, ink}

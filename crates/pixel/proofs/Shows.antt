@@ -9,7 +9,7 @@ use native.Mathlib.Omega.{arith}
 use lib.Dec.{eqb}
 use lib.ListN.{getD}
 use borrow.Author.Tests.{eqb-true, eqb-false}
-use Rattle.paper.specs.Choose.{choose}
+use Rattle.promises.specs.Choose.{choose}
 use Rattle.settings.specs.declared.Look.{Look}
 use Rattle.settings.specs.Fields.{graphics, css}
 use Rattle.settings.specs.Modes.{width, dots}
@@ -38,14 +38,14 @@ module _ (f g : ℕ → ℕ) where
   alike-or-differ (suc n) = ⊎-elim (λ h. one-more n (eqb (f n) (g n)) refl h) (λ s. inr (s .0, omega (arith, s .1), s .2)) (alike-or-differ n)
 
 -- a colour for 1 and another for 0 tell the bits apart
-tells : (a x y : ℕ) → (a ≡ black → ⊥) → x < 2 → y < 2 → choose (eqb x 1) a black ≡ choose (eqb y 1) a black → x ≡ y
-tells a zero zero n h i e = refl
-tells a zero (suc zero) n h i e = absurd (n (sym e))
-tells a (suc zero) zero n h i e = absurd (n e)
-tells a (suc zero) (suc zero) n h i e = refl
-tells a (suc (suc x)) y n h i e = absurd (omega arith)
-tells a zero (suc (suc y)) n h i e = absurd (omega arith)
-tells a (suc zero) (suc (suc y)) n h i e = absurd (omega arith)
+apart : (a x y : ℕ) → (a ≡ black → ⊥) → x < 2 → y < 2 → choose (eqb x 1) a black ≡ choose (eqb y 1) a black → x ≡ y
+apart a zero zero n h i e = refl
+apart a zero (suc zero) n h i e = absurd (n (sym e))
+apart a (suc zero) zero n h i e = absurd (n e)
+apart a (suc zero) (suc zero) n h i e = refl
+apart a (suc (suc x)) y n h i e = absurd (omega arith)
+apart a zero (suc (suc y)) n h i e = absurd (omega arith)
+apart a (suc zero) (suc (suc y)) n h i e = absurd (omega arith)
 
 module _ (l : Look) (b c : ℕ) (h : b < 256) (i : c < 256) where
   -- a byte is known by its elements
@@ -53,7 +53,7 @@ module _ (l : Look) (b c : ℕ) (h : b < 256) (i : c < 256) where
   unfolding element oneBit bit
   by-its-elements =
       by-mode l
-      (λ m n. rw (m, n) (λ e. same-bits b c h i (λ j k. tells (4 * css l) _ _ (λ q. omega arith) (omega arith) (omega arith) (e j k))))
+      (λ m n. rw (m, n) (λ e. same-bits b c h i (λ j k. apart (4 * css l) _ _ (λ q. omega arith) (omega arith) (omega arith) (e j k))))
       (λ m n. rw (m, n) (λ e. same-pairs b c h i (λ j k. omega (arith, e j k))))
 
   pub some-element : (b ≡ c → ⊥) → (j : ℕ) × (j < count l) × (element l b j ≡ element l c j → ⊥)

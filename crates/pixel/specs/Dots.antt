@@ -1,7 +1,7 @@
 -- How a byte's bits stand on a line: high bits left.
 use Prim.Native.Nat.{ℕ, zero, suc, _+_, _-_, _*_, _/_, _%_, _^_}
 use lib.Dec.{eqb}
-use Rattle.paper.specs.Choose.{choose}
+use Rattle.promises.specs.Choose.{choose}
 
 -- The colour numbers: 0 green, 1 yellow, 2 blue, 3 red, 4 buff, 5 cyan, 6 magenta, 7 orange, 8 black.
 abbrev pub black : ℕ

@@ -1,7 +1,7 @@
 -- Graphics (A/G = 1): one bit an element in RG modes, which have GM0 = 1, and two bits in CG modes.
 use Prim.Native.Nat.{ℕ, _+_, _*_, _/_}
 use lib.Dec.{eqb}
-use Rattle.paper.specs.Choose.{choose}
+use Rattle.promises.specs.Choose.{choose}
 use Rattle.settings.specs.declared.Look.{Look}
 use Rattle.settings.specs.Fields.{gm0, css}
 use Rattle.settings.specs.Modes.{dots}

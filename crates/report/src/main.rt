@@ -11,7 +11,7 @@ fn ended() -> bool {
 
 // Prints the report of a sheet.
 fn print(sheet: &[u8]) {
-    let text = wording::report(sheet);
+    let text = report_text::report(sheet);
     let bytes = text.bytes;
     let len = text.len;
     if !io::write_all(STDOUT_FILENO, &bytes[..len]) {
@@ -19,7 +19,7 @@ fn print(sheet: &[u8]) {
     }
 }
 
-// The longest sheet has 28,152 bytes, and what lies past one byte more cannot change the report (`report-enough` of crate wording).
+// The longest sheet has 28,152 bytes, and what lies past one byte more cannot change the report (`report-enough` of crate `report_text`).
 fn main() {
     let mut sheet = [0u8; 28153];
     let n = io::read_full(STDIN_FILENO, &mut sheet);

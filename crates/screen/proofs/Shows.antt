@@ -4,12 +4,12 @@ use mathlib.Core.Path.{_≡_, refl, sym, ap, ap₂, _∙_}
 use mathlib.Core.List.{List, [], _∷_, _++_}
 use lib.ListN.{length, getD}
 use borrow.Author.Tests.{le-ltb, ltb-false}
-use Rattle.paper.specs.Told.{Told, done}
-use Rattle.paper.specs.Order.{Check, firstOf, NoneHolds}
-use Rattle.paper.specs.Written.{written, leaves}
-use Rattle.paper.proofs.Fills.{leaves-done, leaves-refused}
-use Rattle.paper.proofs.Orders.{done-when, passing, instead-passes}
-use Rattle.paper.proofs.Later.{first-refuses, first-passes, first-done}
+use Rattle.promises.specs.Told.{Told, done}
+use Rattle.promises.specs.Order.{Check, firstOf, NoneHolds}
+use Rattle.promises.specs.Written.{written, leaves}
+use Rattle.promises.proofs.Fills.{leaves-done, leaves-refused}
+use Rattle.promises.proofs.Orders.{done-when, passing, instead-passes}
+use Rattle.promises.proofs.Later.{first-refuses, first-passes, first-done}
 use Rattle.settings.specs.declared.Settings.{Settings}
 use Rattle.settings.specs.Modes.{border}
 use Rattle.settings.specs.Refusals.{stripLength, shortStrip}

@@ -1,14 +1,12 @@
 -- Every public operation of `screen`: its contract, as the source has it, takes every input and allows one outcome.
 use mathlib.Core.Path.{sym, _∙_}
 use base.Logic.{emp, id⊢}
-use Rattle.paper.specs.Fixes.{Operation, Fixes, whole, three-tell}
+use Rattle.promises.specs.Fixes.{Operation, Fixes, whole, three-tell}
 use Rattle.answer.proofs.Answers.{one-answer}
-use Rattle.screen.proofs.show.{ended as show-ended, clauses as show-clauses}
-use Rattle.screen.proofs.show.Key.{name as #show}
-use Rattle.screen.proofs.show.Reads as show
+use Rattle.screen.proofs.show as show
 
 abbrev pub show-op : Operation
-show-op = record { key = #show; T = show-ended; clauses = λ M. show-clauses; Says = show.Learnt; O = _; seen = λ κs. whole }
+show-op = record { key = show.Key.name; T = show.ended; clauses = λ M. show.clauses; Says = show.Reads.Learnt; O = _; seen = λ κs. whole }
 
 pub show-fixes : Fixes show-op
 show-fixes = record {

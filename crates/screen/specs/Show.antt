@@ -2,9 +2,9 @@
 use Prim.Native.Nat.{ℕ}
 use mathlib.Core.List.{List, [], _∷_, _++_}
 use lib.ListN.{length}
-use Rattle.paper.specs.Told.{Told, done}
-use Rattle.paper.specs.Order.{Check, firstOf}
-use Rattle.paper.specs.Written.{leaves}
+use Rattle.promises.specs.Told.{Told, done}
+use Rattle.promises.specs.Order.{Check, firstOf}
+use Rattle.promises.specs.Written.{leaves}
 use Rattle.settings.specs.declared.Settings.{Settings}
 use Rattle.settings.specs.Modes.{border}
 use Rattle.settings.specs.Refusals.{pinsAbove, externalText, fastRate, imageLength, fontLength, shortStrip, shortFrame}

@@ -3,8 +3,8 @@ use answer::Answer;
 use settings::Settings;
 ghost use mathlib.Core.Path.{_≡_};
 ghost use lib.ListN.{length};
-ghost use Rattle.paper.specs.Told.{done};
-ghost use Rattle.paper.specs.Order.{firstOf};
+ghost use Rattle.promises.specs.Told.{done};
+ghost use Rattle.promises.specs.Order.{firstOf};
 ghost use Rattle.answer.specs.Told.{toldOf};
 ghost use Rattle.settings.specs.Modes.{border};
 ghost use Rattle.screen.specs.Show.{showLengths, showTold, stripShown, frameShown};
@@ -30,7 +30,7 @@ fn length_answer(
     settings::short_frame(answer, frame)
 }
 
-// The work, where no length is refused: the bytes are fetched aside, and stored once drawing them is not refused.
+// The work, where no length is refused: the bytes are fetched into an array here, and stored in the strip once drawing them is not refused.
 fn render(
     settings: Settings,
     image: &[u8],

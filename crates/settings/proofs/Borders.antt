@@ -4,8 +4,8 @@ use mathlib.Core.Path.{_≡_}
 use mathlib.Core.List.{List, [], _∷_}
 use lib.Dec.{eqb, ltb, eqb→eq}
 use lib.ListN.{getD}
-use Rattle.paper.specs.Choose.{choose}
-use Rattle.paper.proofs.Tables.{each-below}
+use Rattle.promises.specs.Choose.{choose}
+use Rattle.promises.proofs.Tables.{each-below}
 use Rattle.settings.specs.declared.Look.{Look}
 use Rattle.settings.specs.Modes.{border}
 

@@ -5,7 +5,7 @@ use mathlib.Core.Bool.{Bool, true, _||_}
 use mathlib.Core.Logic.{⊎-elim}
 use lib.Dec.{eqb}
 use borrow.Author.Tests.{eqb-true}
-use Rattle.paper.proofs.Choices.{either}
+use Rattle.promises.proofs.Choices.{either}
 use Rattle.settings.specs.Refusals.{imageFits}
 
 -- a fact about an image's length, by the five cases

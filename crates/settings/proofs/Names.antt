@@ -1,10 +1,10 @@
--- A mode's name in its place for three bytes.
+-- A mode's name in its array of three bytes.
 use Prim.Native.Nat.{ℕ, _≤_}
 use mathlib.Core.Path.{_≡_, refl}
 use mathlib.Core.List.{List, [], _∷_}
 use native.Mathlib.Omega.{arith}
 use lib.ListN.{length, take}
-use Rattle.paper.proofs.Choices.{of-both}
+use Rattle.promises.proofs.Choices.{of-both}
 use Rattle.settings.specs.declared.Look.{Look}
 use Rattle.settings.specs.Fields.{graphics}
 use Rattle.settings.specs.Modes.{modeName, named}
@@ -13,7 +13,7 @@ pub name-small : (l : Look) → length (modeName l) ≤ 3
 unfolding modeName
 name-small l = of-both (λ (s : List ℕ). length s ≤ 3) (graphics l) (omega arith) (omega arith)
 
--- its first bytes are the name, and the place is three bytes long
+-- the first bytes of the array are the name, and it has three
 pub name-bytes : (s : List ℕ) → length s ≤ 3 → (take (named s .len) (named s .bytes) ≡ s) × (length (named s .bytes) ≡ 3)
 name-bytes [] h = (refl, refl)
 name-bytes (a ∷ []) h = (refl, refl)

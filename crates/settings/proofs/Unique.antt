@@ -1,7 +1,7 @@
 -- Every public operation of `settings`: its contract, as the source has it, takes every input and allows one outcome.
 use mathlib.Core.Path.{refl, sym, _∙_}
 use base.Logic.{emp, id⊢}
-use Rattle.paper.specs.Fixes.{Operation, Fixes, whole, one-tells}
+use Rattle.promises.specs.Fixes.{Operation, Fixes, whole, one-tells}
 use Rattle.answer.proofs.Answers.{one-answer}
 use Rattle.settings.proofs.video_mode as video-mode
 use Rattle.settings.proofs.offset as offset

@@ -5,8 +5,8 @@ use mathlib.Core.Logic.{_⊎_, inl, inr, ⊎-elim}
 use native.Mathlib.Omega.{arith}
 use native.Mathlib.Nat.{mod-lt}
 use lib.Dec.{lit<}
-use Rattle.paper.proofs.Choices.{of-both}
-use Rattle.paper.proofs.Tables.{each}
+use Rattle.promises.proofs.Choices.{of-both}
+use Rattle.promises.proofs.Tables.{each}
 use Rattle.settings.specs.declared.Look.{Look}
 use Rattle.settings.specs.Fields.{graphics, gm}
 use Rattle.settings.specs.Modes.{width, widths}

@@ -4,7 +4,7 @@ use mathlib.Core.Bool.{_||_}
 use mathlib.Core.List.{List, [], _∷_, _++_}
 use lib.Dec.{eqb}
 use lib.ListN.{length, take, getD, replicate}
-use Rattle.paper.specs.Choose.{choose}
+use Rattle.promises.specs.Choose.{choose}
 use Rattle.settings.specs.declared.Look.{Look}
 use Rattle.settings.specs.declared.Name.{Name}
 use Rattle.settings.specs.Fields.{graphics, gm, gm2, gm1, css}
@@ -18,11 +18,11 @@ abbrev pub elements : List ℕ
 elements = 4 ∷ 2 ∷ 2 ∷ 2 ∷ 2 ∷ 2 ∷ 2 ∷ 1 ∷ []
 
 -- and the two bytes of a name that change: C or R, and the digit after G
-abbrev pub kinds : List ℕ
-kinds = 67 ∷ 82 ∷ 67 ∷ 82 ∷ 67 ∷ 82 ∷ 67 ∷ 82 ∷ []
+abbrev pub modeKinds : List ℕ
+modeKinds = 67 ∷ 82 ∷ 67 ∷ 82 ∷ 67 ∷ 82 ∷ 67 ∷ 82 ∷ []
 
-abbrev pub digits : List ℕ
-digits = 49 ∷ 49 ∷ 50 ∷ 50 ∷ 51 ∷ 51 ∷ 54 ∷ 54 ∷ []
+abbrev pub modeDigits : List ℕ
+modeDigits = 49 ∷ 49 ∷ 50 ∷ 50 ∷ 51 ∷ 51 ∷ 54 ∷ 54 ∷ []
 
 -- W; text has 32 bytes a line
 unfoldable pub width : Look → ℕ
@@ -34,9 +34,9 @@ dots l = choose (graphics l) (getD elements (gm l) 0) 1
 
 -- the name: C or R, G and the digit; text is A1, A2, A3, A4 by GM1, GM0
 unfoldable pub modeName : Look → List ℕ
-modeName l = choose (graphics l) (getD kinds (gm l) 0 ∷ 71 ∷ getD digits (gm l) 0 ∷ []) (65 ∷ (49 + gm l % 4) ∷ [])
+modeName l = choose (graphics l) (getD modeKinds (gm l) 0 ∷ 71 ∷ getD modeDigits (gm l) 0 ∷ []) (65 ∷ (49 + gm l % 4) ∷ [])
 
--- a name of two or three bytes in a place for three
+-- a name of two or three bytes in an array of three, the rest 0
 abbrev pub named : List ℕ → Name
 named s = record { bytes = take 3 (s ++ replicate 3 0); len = length s }
 

@@ -2,8 +2,8 @@
 use Prim.Native.Nat.{ℕ, _*_}
 use mathlib.Core.Bool.{Bool, not, _&&_, _||_}
 use lib.Dec.{ltb, eqb}
-use Rattle.paper.specs.Told.{refused}
-use Rattle.paper.specs.Order.{Check, check}
+use Rattle.promises.specs.Told.{refused}
+use Rattle.promises.specs.Order.{Check, check}
 use Rattle.settings.specs.declared.Look.{Look}
 use Rattle.settings.specs.declared.Settings.{Settings}
 use Rattle.settings.specs.Fields.{fast, graphics, external}

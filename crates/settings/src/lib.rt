@@ -3,7 +3,7 @@ use answer::Answer;
 use answer::Unfit;
 ghost use mathlib.Core.Path.{_≡_};
 ghost use Prim.Native.Nat.{_<_};
-ghost use Rattle.paper.specs.Order.{after};
+ghost use Rattle.promises.specs.Order.{after};
 ghost use Rattle.answer.specs.Told.{toldOf};
 ghost use Rattle.settings.specs.Fields.{bits, videoMode, offset, fast, graphics, external, gm, css};
 ghost use Rattle.settings.specs.Refusals.{imageFits, stripLength, pinsAbove, externalText, textBack, fastRate, imageLength, fontLength, shortStrip, shortFrame};
@@ -67,28 +67,28 @@ fn fast(settings: Settings) -> bool
     field(settings.word, 12, 1) == 1
 }
 
-// A/G.
+// A/G: whether the mode is graphics.
 pub fn graphics(look: Look) -> bool
     ensures { λ r. ⌜ r ≡ graphics look ⌝ }
 {
     field(look.pins as u16, 5, 1) == 1
 }
 
-// INT/EXT.
+// INT/EXT: whether text has external characters.
 fn external(look: Look) -> bool
     ensures { λ r. ⌜ r ≡ external look ⌝ }
 {
     field(look.pins as u16, 4, 1) == 1
 }
 
-// GM2-GM0.
+// GM2-GM0 as a number.
 pub fn gm(look: Look) -> usize
     ensures { λ r. ⌜ r ≡ gm look ⌝ }
 {
     field(look.pins as u16, 1, 3) as usize
 }
 
-// CSS.
+// CSS, which of two colour sets is shown.
 pub fn css(look: Look) -> u8
     ensures { λ r. ⌜ r ≡ css look ⌝ }
 {
@@ -152,7 +152,7 @@ pub fn mode_name(look: Look) -> Name
     }
 }
 
-// == The checks of document 01's table by settings and lengths, each coded here alone: the answer after one more of them.
+// The checks of document 01's table by settings and lengths. Each is coded only here, as the answer after one more check.
 
 // 1: pin byte above 63.
 pub fn pins_above(answer: Answer, look: Look) -> Answer

@@ -9,8 +9,8 @@ use lib.ListN.{length, take, drop, length-append}
 use lib.Seq.{take-all}
 use contract.Lifetimes.{Lfts}
 use denote.Ref.{RefT, now}
-use Rattle.paper.specs.Fixes.{Allows}
-use Rattle.paper.specs.Told.{Told}
+use Rattle.promises.specs.Fixes.{Allows}
+use Rattle.promises.specs.Told.{Told}
 use Rattle.answer.specs.Told.{toldOf}
 use Rattle.text.specs.Code.{Reading, got, stuck, Longest}
 use Rattle.text.proofs.Lists.{le-or-lt}
@@ -101,7 +101,7 @@ module _ (s : Lent) where
       ∙ joined-by (length l) (λ n. now (r n) ++ nl) (λ n. lineAt l n ++ nl) (λ n _. ap (λ (x : List ℕ). x ++ nl) (line-holds (κr n) n (r n) (q n)))
       ∙ joined-lines l ∙ sym (tail-holds κt t w)
 
-  -- which arm an answer is of
+  -- where the answer is done, the sheet is accepted
   pub done-accepted : (κs : Lfts 1) (z : Sheet) → Reads κs s z → toldOf (z .answer) .number ≡ 0 → accepted (now s) ≡ true
   done-accepted κs z p h = go (readSheet (now s)) refl
     where

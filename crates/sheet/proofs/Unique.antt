@@ -1,24 +1,16 @@
 -- Every public operation of `sheet`: its contract, as the source has it, takes every input and allows one outcome.
 use mathlib.Core.Path.{refl, sym, _∙_}
 use base.Logic.{emp, id⊢}
-use Rattle.paper.specs.Fixes.{Operation, Fixes, whole, placed, one-tells}
-use Rattle.paper.proofs.Parts.{one-part}
+use Rattle.promises.specs.Fixes.{Operation, Fixes, whole, placed, one-tells}
+use Rattle.promises.proofs.Parts.{one-part}
 use Rattle.answer.proofs.Answers.{one-answer}
-use Rattle.sheet.proofs.read.{ended as read-ended, clauses as read-clauses}
-use Rattle.sheet.proofs.read.Key.{name as #read}
-use Rattle.sheet.proofs.read.Reads as read
-use Rattle.sheet.proofs.deed.{ended as deed-ended, clauses as deed-clauses}
-use Rattle.sheet.proofs.deed.Key.{name as #deed}
-use Rattle.sheet.proofs.deed.Reads as deed
-use Rattle.sheet.proofs.annotation.{ended as annotation-ended, clauses as annotation-clauses}
-use Rattle.sheet.proofs.annotation.Key.{name as #annotation}
-use Rattle.sheet.proofs.annotation.Reads as annotation
-use Rattle.sheet.proofs.tail.{ended as tail-ended, clauses as tail-clauses}
-use Rattle.sheet.proofs.tail.Key.{name as #tail}
-use Rattle.sheet.proofs.tail.Reads as tail
+use Rattle.sheet.proofs.read as read
+use Rattle.sheet.proofs.deed as deed
+use Rattle.sheet.proofs.annotation as annotation
+use Rattle.sheet.proofs.tail as tail
 
 abbrev pub read-op : Operation
-read-op = record { key = #read; T = read-ended; clauses = λ M. read-clauses; Says = read.Learnt; O = _; seen = λ κs. whole }
+read-op = record { key = read.Key.name; T = read.ended; clauses = λ M. read.clauses; Says = read.Reads.Learnt; O = _; seen = λ κs. whole }
 
 pub read-fixes : Fixes read-op
 read-fixes = record {
@@ -37,7 +29,7 @@ read-fixes = record {
 }
 
 abbrev pub deed-op : Operation
-deed-op = record { key = #deed; T = deed-ended; clauses = λ M. deed-clauses; Says = deed.Learnt; O = _; seen = λ κs. placed }
+deed-op = record { key = deed.Key.name; T = deed.ended; clauses = λ M. deed.clauses; Says = deed.Reads.Learnt; O = _; seen = λ κs. placed }
 
 pub deed-fixes : Fixes deed-op
 deed-fixes = record {
@@ -47,7 +39,7 @@ deed-fixes = record {
 }
 
 abbrev pub annotation-op : Operation
-annotation-op = record { key = #annotation; T = annotation-ended; clauses = λ M. annotation-clauses; Says = annotation.Learnt; O = _; seen = λ κs. placed }
+annotation-op = record { key = annotation.Key.name; T = annotation.ended; clauses = λ M. annotation.clauses; Says = annotation.Reads.Learnt; O = _; seen = λ κs. placed }
 
 pub annotation-fixes : Fixes annotation-op
 annotation-fixes = record {
@@ -57,7 +49,7 @@ annotation-fixes = record {
 }
 
 abbrev pub tail-op : Operation
-tail-op = record { key = #tail; T = tail-ended; clauses = λ M. tail-clauses; Says = tail.Learnt; O = _; seen = λ κs. placed }
+tail-op = record { key = tail.Key.name; T = tail.ended; clauses = λ M. tail.clauses; Says = tail.Reads.Learnt; O = _; seen = λ κs. placed }
 
 pub tail-fixes : Fixes tail-op
 tail-fixes = record {

@@ -1,9 +1,9 @@
 // The sheet: what it holds, and its deed and its annotation lines as parts of the lent bytes.
 use answer::Answer;
 use answer::Spot;
-use outline::DEED_KEY;
+use scan::DEED_KEY;
 ghost use lib.ListN.{length};
-ghost use Rattle.paper.specs.Part.{PartOf};
+ghost use Rattle.promises.specs.Part.{PartOf};
 ghost use Rattle.grammar.specs.Sheet.{lines};
 ghost use Rattle.grammar.specs.Given.{fieldsIn, deedFrom, tailFrom, annotationFrom, lineAt};
 ghost use Rattle.sheet.specs.Held.{HeldIn};
@@ -18,11 +18,11 @@ pub struct Sheet {
     pub annotations: usize,
 }
 
-// Reads a sheet.
+// Reads a sheet: what it holds, or where it is broken.
 pub fn read(sheet: &[u8]) -> Sheet
     ensures { λ r. ⌜ HeldIn (now (sheet .entry)) r ⌝ }
 {
-    let found = outline::survey(sheet);
+    let found = scan::survey(sheet);
     let writes = found.writes;
     if found.whole {
         return Sheet {
@@ -42,11 +42,11 @@ pub fn read(sheet: &[u8]) -> Sheet
     }
 }
 
-// The deed.
+// The deed, as a part of the sheet; of a refused sheet, empty.
 pub fn deed(sheet: &[u8]) -> &[u8]
     ensures { λ r. ⌜ PartOf (sheet .entry) r (deedFrom (now (sheet .entry))) (length (fieldsIn (now (sheet .entry)) .deed)) ⌝ }
 {
-    let found = outline::survey(sheet);
+    let found = scan::survey(sheet);
     if found.whole {
         let from = DEED_KEY.len();
         let end = from + found.deed;
@@ -59,7 +59,7 @@ pub fn deed(sheet: &[u8]) -> &[u8]
 pub fn annotation(sheet: &[u8], n: usize) -> &[u8]
     ensures { λ r. ⌜ PartOf (sheet .entry) r (annotationFrom (now (sheet .entry)) n) (length (lineAt (fieldsIn (now (sheet .entry)) .annotations) n)) ⌝ }
 {
-    let found = outline::annotation(sheet, n);
+    let found = scan::annotation(sheet, n);
     let from = found.from;
     let end = from + found.size;
     &sheet[from..end]
@@ -69,7 +69,7 @@ pub fn annotation(sheet: &[u8], n: usize) -> &[u8]
 pub fn tail(sheet: &[u8]) -> &[u8]
     ensures { λ r. ⌜ PartOf (sheet .entry) r (tailFrom (now (sheet .entry))) (length (lines (fieldsIn (now (sheet .entry)) .annotations))) ⌝ }
 {
-    let found = outline::survey(sheet);
+    let found = scan::survey(sheet);
     if found.whole {
         let from = found.tail;
         return &sheet[from..];

@@ -5,12 +5,12 @@ use mathlib.Core.Bool.{true}
 use mathlib.Core.List.{List, [], _∷_}
 use borrow.Author.Tests.{ltb-false, not-false}
 use lib.ListN.{length}
-use Rattle.paper.specs.Told.{Told, done}
-use Rattle.paper.specs.Order.{firstOf}
-use Rattle.paper.specs.Written.{written, Filled}
-use Rattle.paper.proofs.Orders.{done-when, passing}
-use Rattle.paper.proofs.Later.{first-refuses, first-done}
-use Rattle.paper.proofs.Fills.{filled-written, length-written, leaves-done, leaves-refused, leaves-long}
+use Rattle.promises.specs.Told.{Told, done}
+use Rattle.promises.specs.Order.{firstOf}
+use Rattle.promises.specs.Written.{written, Filled}
+use Rattle.promises.proofs.Orders.{done-when, passing}
+use Rattle.promises.proofs.Later.{first-refuses, first-done}
+use Rattle.promises.proofs.Fills.{filled-written, length-written, leaves-done, leaves-refused, leaves-long}
 use Rattle.settings.specs.declared.Settings.{Settings}
 use Rattle.settings.specs.Refusals.{imageFits, stripLength}
 use Rattle.strip.specs.Fetch.{fetchLengths, fetchPlaces, fetchTold, fetchedByte, stripAfter}

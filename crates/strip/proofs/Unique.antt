@@ -1,14 +1,12 @@
 -- Every public operation of `strip`: its contract, as the source has it, takes every input and allows one outcome.
 use mathlib.Core.Path.{sym, _∙_}
 use base.Logic.{emp, id⊢}
-use Rattle.paper.specs.Fixes.{Operation, Fixes, whole, two-tell}
+use Rattle.promises.specs.Fixes.{Operation, Fixes, whole, two-tell}
 use Rattle.answer.proofs.Answers.{one-answer}
-use Rattle.strip.proofs.fetch.{ended as fetch-ended, clauses as fetch-clauses}
-use Rattle.strip.proofs.fetch.Key.{name as #fetch}
-use Rattle.strip.proofs.fetch.Reads as fetch
+use Rattle.strip.proofs.fetch as fetch
 
 abbrev pub fetch-op : Operation
-fetch-op = record { key = #fetch; T = fetch-ended; clauses = λ M. fetch-clauses; Says = fetch.Learnt; O = _; seen = λ κs. whole }
+fetch-op = record { key = fetch.Key.name; T = fetch.ended; clauses = λ M. fetch.clauses; Says = fetch.Reads.Learnt; O = _; seen = λ κs. whole }
 
 pub fetch-fixes : Fixes fetch-op
 fetch-fixes = record {

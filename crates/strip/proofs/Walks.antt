@@ -9,8 +9,8 @@ use native.Mathlib.Numerals.{add-one}
 use native.Mathlib.Omega.{arith}
 use lib.Arith.{digits-div, digits-mod}
 use lib.ListN.{length, getD}
-use Rattle.paper.specs.Written.{Filled}
-use Rattle.paper.proofs.Fills.{by, join, upto}
+use Rattle.promises.specs.Written.{Filled}
+use Rattle.promises.proofs.Fills.{by, join, upto}
 use Rattle.settings.specs.declared.Settings.{Settings}
 use Rattle.settings.specs.Modes.{width}
 use Rattle.settings.specs.Refusals.{imageFits}

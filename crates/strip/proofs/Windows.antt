@@ -1,4 +1,4 @@
--- Only the window is felt: what two images have to do with each other's strips.
+-- Only the window is felt: images that agree at the fetched places give the same answer and strip.
 use Prim.Native.Nat.{ℕ, _/_, _%_, _<_}
 use mathlib.Core.Path.{_≡_, refl, sym, ap, _∙_}
 use mathlib.Core.Logic.{_↔_}
@@ -6,8 +6,8 @@ use mathlib.Core.List.{List}
 use native.Mathlib.Nat.{mod-lt, div-lt-iff-lt-mul}
 use native.Mathlib.Omega.{arith}
 use lib.ListN.{length, getD}
-use Rattle.paper.specs.Written.{written}
-use Rattle.paper.proofs.Fills.{written-by, written-fills}
+use Rattle.promises.specs.Written.{written}
+use Rattle.promises.proofs.Fills.{written-by, written-fills}
 use Rattle.settings.specs.declared.Settings.{Settings}
 use Rattle.settings.specs.Modes.{width}
 use Rattle.settings.specs.Refusals.{stripLength}

@@ -3,9 +3,9 @@ use Prim.Native.Nat.{ℕ, _/_, _%_, _<_}
 use mathlib.Core.Path.{_≡_}
 use mathlib.Core.List.{List, [], _∷_, _++_}
 use lib.ListN.{length, getD}
-use Rattle.paper.specs.Told.{Told, done}
-use Rattle.paper.specs.Order.{Check, firstOf}
-use Rattle.paper.specs.Written.{written, leaves}
+use Rattle.promises.specs.Told.{Told, done}
+use Rattle.promises.specs.Order.{Check, firstOf}
+use Rattle.promises.specs.Written.{written, leaves}
 use Rattle.settings.specs.declared.Settings.{Settings}
 use Rattle.settings.specs.Modes.{width}
 use Rattle.settings.specs.Refusals.{pinsAbove, externalText, fastRate, imageLength, shortStrip, stripLength}

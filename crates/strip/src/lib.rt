@@ -6,9 +6,9 @@ ghost use mathlib.Core.Path.{_≡_};
 ghost use mathlib.Core.Bool.{true};
 ghost use Prim.Native.Nat.{_+_, _-_, _*_, _<_, _≤_, _/_};
 ghost use lib.ListN.{length, getD, replicate};
-ghost use Rattle.paper.specs.Told.{done};
-ghost use Rattle.paper.specs.Order.{firstOf};
-ghost use Rattle.paper.specs.Written.{Filled};
+ghost use Rattle.promises.specs.Told.{done};
+ghost use Rattle.promises.specs.Order.{firstOf};
+ghost use Rattle.promises.specs.Written.{Filled};
 ghost use Rattle.answer.specs.Told.{toldOf};
 ghost use Rattle.settings.specs.Modes.{width};
 ghost use Rattle.settings.specs.Refusals.{imageFits, stripLength};
@@ -78,7 +78,7 @@ fn line(
     while n < runs {
         let run = place(settings, size, counter.address);
         copy_run(image, run, strip, at + 16 * n);
-        counter = counter.pass(settings);
+        counter = counter.carry(settings);
         n += 1;
     }
     counter
@@ -91,11 +91,11 @@ fn lines(settings: Settings, image: &[u8], strip: &mut [u8])
 {
     let wide = settings::width(settings.look);
     let runs = wide / 16;
-    let mut counter = counter::first(settings);
+    let mut counter = counter::start(settings);
     let mut n = 0;
     while n < 192 {
         let end = line(settings, counter, runs, image, strip, n * wide);
-        counter = end.line_end(settings);
+        counter = end.clear(settings);
         n += 1;
     }
 }

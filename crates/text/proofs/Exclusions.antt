@@ -7,7 +7,7 @@ use mathlib.Core.List.{List, [], _∷_, _++_, append-assoc, append-nil}
 use mathlib.Core.Bool.{Bool, true, false}
 use lib.ListN.{length, take, drop, length-append, take-append-drop}
 use lib.Seq.{length-take-le, take-append-seam}
-use Rattle.paper.specs.Choose.{choose}
+use Rattle.promises.specs.Choose.{choose}
 use Rattle.text.specs.Code.{Code, Begins, Reading, got, stuck, Any, Accepted, Refused, Right, Prefix}
 use Rattle.text.specs.Combine.{All, closed, only, readOnly}
 use Rattle.text.proofs.Lists.{split-le, le-or-lt, empty-first}
@@ -21,7 +21,7 @@ all-left : (p : ℕ → Bool) (a b : List ℕ) → All p (a ++ b) → All p a
 all-left p [] b h = tt
 all-left p (c ∷ a) b h = (h .0, all-left p a b (h .1))
 
--- of one byte, a part that is not empty is the whole
+-- a beginning of one byte that is not empty is that byte
 one-byte : (e : ℕ) (x t : List ℕ) → 0 < length x → e ∷ [] ≡ x ++ t → x ≡ e ∷ []
 one-byte e [] t h q = absurd (omega arith)
 one-byte e (c ∷ x) t h q =

@@ -10,7 +10,7 @@ use borrow.Author.Tests.{lt-ltb, le-ltb}
 use lib.Arith.{digits-lt, digits-div, digits-mod}
 use lib.ListN.{length, drop, getD, drop-of-length-le}
 use lib.Seq.{drop-cons}
-use Rattle.paper.proofs.Choices.{either}
+use Rattle.promises.proofs.Choices.{either}
 use Rattle.text.specs.Code.{Any, Right, Prefix}
 use Rattle.text.specs.Combine.{All, closed, readClosed}
 use Rattle.text.specs.Hex.{between, hexByte, hexDigit, unhex, hex, hexCode, hexFrom, hexValue, readHex}

@@ -29,11 +29,11 @@ le-or-lt m n = go (decLe m n)
     go (yes h) = inl h
     go (no h) = inr (omega arith)
 
--- a place within a list that goes on past a first part of n bytes
+-- m bytes of what follows the first n bytes of a list end within the list
 pub within-drop : (n m : ℕ) (s : List ℕ) → n ≤ length s → m ≤ length (drop n s) → n + m ≤ length s
 within-drop n m s h k = omega (arith, length-drop n s)
 
--- a byte that no list equation allows
+-- the empty list is not one with a first byte
 pub nil-cons : {b : ℕ} {l : List ℕ} → _≡_ {A = List ℕ} [] (b ∷ l) → ⊥
 nil-cons e = let z : _≡_ {A = ℕ} 0 1 = cc in omega arith
 
@@ -41,7 +41,7 @@ pub empty-first : (t r : List ℕ) → [] ≡ t ++ r → t ≡ []
 empty-first [] r e = refl
 empty-first (c ∷ t) r e = absurd (nil-cons e)
 
--- a list with something in it, split in two with something in the first part
+-- where a list that begins with b is split in two and the first part is not empty, that part begins with b
 pub first-byte : (t r : List ℕ) (b : ℕ) (s : List ℕ) → (t ≡ [] → ⊥) → b ∷ s ≡ t ++ r → (l : List ℕ) × (t ≡ b ∷ l) × (s ≡ l ++ r)
 first-byte [] r b s h e = absurd (h refl)
 first-byte (c ∷ l) r b s h e = (l, (cc), (cc))

@@ -10,8 +10,8 @@ use mathlib.Core.Bool.{Bool, true, false, _&&_}
 use lib.Dec.{leb, ltb, eqb, leb·zero, leb·suc-suc}
 use lib.ListN.{length, take, replicate, length-replicate, getD}
 use borrow.Author.Tests.{eq-eqb, ne-eqb, le-leb, lt-leb}
-use Rattle.paper.specs.Choose.{choose}
-use Rattle.paper.proofs.Choices.{and-false}
+use Rattle.promises.specs.Choose.{choose}
+use Rattle.promises.proofs.Choices.{and-false}
 use Rattle.text.specs.Code.{got, stuck, Any, Refused, Right, Prefix, Some}
 use Rattle.text.specs.Combine.{bump, All, closed, span, readClosedAt, readClosed}
 use Rattle.text.proofs.Lists.{le-or-lt, nil-cons}

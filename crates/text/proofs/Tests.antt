@@ -4,7 +4,7 @@ use mathlib.Core.Path.{_≡_, refl, sym, _∙_}
 use mathlib.Core.Bool.{Bool, true, false, _&&_, _||_, true≢false}
 use lib.Dec.{leb}
 use borrow.Author.Tests.{leb-true, le-leb}
-use Rattle.paper.specs.Choose.{choose}
+use Rattle.promises.specs.Choose.{choose}
 use Rattle.text.specs.Code.{got, stuck}
 use Rattle.text.specs.Combine.{bump}
 use Rattle.text.specs.Hex.{between}
@@ -33,7 +33,7 @@ between-of a z b h k = and-both (leb a b) (leb b z) (le-leb a b h) (le-leb b z k
 pub between-le : (a z b : ℕ) → between a z b ≡ true → (a ≤ b) × (b ≤ z)
 between-le a z b h = let s = and-split (leb a b) (leb b z) h in (leb-true a b (s .0), leb-true b z (s .1))
 
--- a choice under a bump
+-- a choice of readings, each one byte further on
 pub bump-choose : {X Y : Type 0} (g : Y → X) (t : Bool) (w : Y) (n m : ℕ) → bump g (choose t (got w n) (stuck m)) ≡ choose t (got (g w) (suc n)) (stuck (suc m))
 bump-choose g true w n m = refl
 bump-choose g false w n m = refl

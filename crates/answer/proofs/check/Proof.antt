@@ -1,5 +1,5 @@
 -- `answer::check` meets its contract.
-use Rattle.paper.specs.Order.{after}
+use Rattle.promises.specs.Order.{after}
 use borrow.Author.Needs.{needs}
 use Rattle.answer.proofs.check.Statement.{statement}
 use Rattle.answer.proofs.check.Tie as tie

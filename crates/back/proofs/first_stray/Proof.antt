@@ -10,7 +10,7 @@ use Rattle.back.proofs.Backs.{drawing-clean}
 use Rattle.back.proofs.first_stray.Statement.{statement}
 use Rattle.back.proofs.first_stray.Tie as tie
 
--- where the call begins, from behind the drawing
+-- where the function starts, from the place after the drawing
 abbrev start-of : tie.After-draw → tie.Start
 start-of c = c .before .before .before .before
 

@@ -8,12 +8,12 @@ use borrow.Author.Needs.{needs}
 use Rattle.pixel.proofs.Pins.{gm-low}
 use Rattle.settings.proofs.Widths.{width-cases}
 use Rattle.settings.specs.Modes.{width}
-use Rattle.paper.proofs.Fills.{by, upto}
+use Rattle.promises.proofs.Fills.{by, upto}
 use Rattle.back.proofs.Shapes.{bits-one, pairs-two, bits-two, pairs-four, as-bits, as-pairs}
 use Rattle.back.proofs.gather.Statement.{statement}
 use Rattle.back.proofs.gather.Tie as tie
 
--- where the call begins, from behind the width
+-- where the function starts, from the place after the width is asked for
 abbrev start-of : tie.After-width → tie.Start
 start-of c = c .before .before .before .before
 

@@ -3,8 +3,8 @@ use Prim.Native.Nat.{ℕ, _+_, _-_, _*_, _/_, _≤_, _<_, zero-le}
 use mathlib.Core.Path.{ap, _∙_}
 use native.Mathlib.Omega.{arith}
 use denote.Ref.{now}
-use Rattle.paper.proofs.Fills.{none, step, upto}
-use Rattle.paper.specs.Written.{Filled}
+use Rattle.promises.proofs.Fills.{none, step, upto}
+use Rattle.promises.specs.Written.{Filled}
 use Rattle.settings.specs.Refusals.{frameLength}
 use Rattle.back.specs.Read.{read}
 use Rattle.back.proofs.Shapes.{breadth-le, cell-within, byte-within, cell-start}

@@ -2,8 +2,8 @@
 use Prim.Native.Nat.{ℕ, _-_, _*_, _/_, _≤_, zero-le}
 use mathlib.Core.Path.{_≡_, ap}
 use native.Mathlib.Omega.{arith}
-use Rattle.paper.proofs.Fills.{none, join, upto}
-use Rattle.paper.specs.Written.{Filled}
+use Rattle.promises.proofs.Fills.{none, join, upto}
+use Rattle.promises.specs.Written.{Filled}
 use Rattle.back.specs.Read.{read}
 use Rattle.back.proofs.Shapes.{next-line}
 use Rattle.back.proofs.lines.Statement.{statement}

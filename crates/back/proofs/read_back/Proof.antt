@@ -7,7 +7,7 @@ use borrow.Author.Needs.{needs}
 use Rattle.back.proofs.read_back.Statement.{statement}
 use Rattle.back.proofs.read_back.Tie as tie
 
--- where the call begins, and that past the test no length is refused
+-- where the function starts, and that past the test no length is refused
 abbrev start-of : tie.After-number → tie.Start
 start-of c = c .before .before .before .before
 

@@ -4,7 +4,7 @@ use mathlib.Core.Bool.{false}
 use mathlib.Core.Path.{_≡_, sym, _∙_}
 use native.Mathlib.Omega.{arith}
 use borrow.Author.Count.{below-more, below-none}
-use Rattle.paper.proofs.Firsts.{first-none, first-at}
+use Rattle.promises.proofs.Firsts.{first-none, first-at}
 use Rattle.settings.specs.Refusals.{frameLength}
 use Rattle.back.specs.Stray.{stray, firstStray}
 use Rattle.back.proofs.search.Statement.{statement}

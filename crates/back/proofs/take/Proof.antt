@@ -5,7 +5,7 @@ use mathlib.Core.List.{List}
 use native.Mathlib.Omega.{arith}
 use denote.Ref.{now}
 use lib.ListN.{length, length-replicate}
-use Rattle.paper.specs.Told.{told, done}
+use Rattle.promises.specs.Told.{told, done}
 use Rattle.settings.specs.Refusals.{stripLength}
 use Rattle.settings.proofs.Widths.{width-le}
 use Rattle.buffer.proofs.Stores.{stored}
@@ -16,7 +16,7 @@ use borrow.Author.Needs.{needs}
 use Rattle.back.proofs.take.Statement.{statement}
 use Rattle.back.proofs.take.Tie as tie
 
--- where the call begins, from the place where the bytes are gathered, and that all fits there
+-- where the function starts, from the place after the bytes are read, and that all fits there
 abbrev gather-of : tie.After-bytes3 → tie.After-gather
 gather-of c = c .before .before
 

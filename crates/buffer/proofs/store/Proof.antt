@@ -3,8 +3,8 @@ use Prim.Native.Nat.{ℕ, _-_, _≤_, zero-le}
 use mathlib.Core.Path.{refl}
 use native.Mathlib.Omega.{arith}
 use lib.ListN.{length, getD}
-use Rattle.paper.specs.Written.{Filled}
-use Rattle.paper.proofs.Fills.{none, more, upto, filled-written}
+use Rattle.promises.specs.Written.{Filled}
+use Rattle.promises.proofs.Fills.{none, more, upto, filled-written}
 use borrow.Author.Needs.{needs}
 use Rattle.buffer.proofs.store.Statement.{statement}
 use Rattle.buffer.proofs.store.Tie as tie

@@ -1,7 +1,7 @@
 -- `frame::length_answer` meets its contract.
 use mathlib.Core.Path.{_≡_, refl, _∙_}
-use Rattle.paper.specs.Told.{done}
-use Rattle.paper.proofs.Orders.{afterEach, in-order}
+use Rattle.promises.specs.Told.{done}
+use Rattle.promises.proofs.Orders.{afterEach, in-order}
 use Rattle.answer.specs.Told.{toldOf}
 use Rattle.settings.specs.Modes.{border}
 use Rattle.frame.specs.Draw.{drawLengths}

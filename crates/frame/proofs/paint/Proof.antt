@@ -5,7 +5,7 @@ use denote.Ref.{now}
 use borrow.Author.Needs.{needs}
 use Rattle.pixel.proofs.Letters.{text-width}
 use Rattle.pixel.proofs.Owners.{in-graphics}
-use Rattle.paper.proofs.Fills.{by}
+use Rattle.promises.proofs.Fills.{by}
 use Rattle.frame.proofs.paint.Statement.{statement}
 use Rattle.frame.proofs.paint.Tie as tie
 

@@ -5,8 +5,8 @@ use mathlib.Core.List.{List}
 use native.Mathlib.Omega.{arith}
 use denote.Ref.{now}
 use lib.ListN.{length, take}
-use Rattle.paper.specs.Told.{Told, done}
-use Rattle.paper.specs.Order.{firstOf}
+use Rattle.promises.specs.Told.{Told, done}
+use Rattle.promises.specs.Order.{firstOf}
 use Rattle.answer.specs.Told.{toldOf}
 use Rattle.settings.specs.declared.Settings.{Settings}
 use Rattle.settings.specs.Fields.{settingsOf}

@@ -1,5 +1,5 @@
 -- `report::print` is safe and ends: the text fits its place.
-use Rattle.wording.proofs.Fits.{text-within, text-held}
+use Rattle.report_text.proofs.Fits.{text-within, text-held}
 use borrow.Author.Needs.{needs}
 use Rattle.report.proofs.print.Statement.{statement}
 use Rattle.report.proofs.print.Tie as tie

@@ -23,7 +23,7 @@ room = replicate 6144 0
 long : (s : Settings) → stripLength (s .look) ≤ length room
 long s = omega (arith, width-le (s .look), length-replicate {A = ℕ} 6144 0)
 
--- where the bytes are fetched, and where the call begins, from the place where they are drawn
+-- where the bytes were fetched, and where the function starts, from the place after they are drawn
 abbrev fetch-of : tie.After-draw → tie.After-fetch
 fetch-of c = c .before .before .before .before
 

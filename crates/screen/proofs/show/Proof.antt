@@ -7,7 +7,7 @@ use borrow.Author.Needs.{needs}
 use Rattle.screen.proofs.show.Statement.{statement}
 use Rattle.screen.proofs.show.Tie as tie
 
--- where the call begins, and that past the test no length is refused
+-- where the function starts, and that past the test no length is refused
 abbrev start-of : tie.After-number → tie.Start
 start-of c = c .before .before .before .before .before .before
 

@@ -5,7 +5,7 @@ use mathlib.Core.Path.{_≡_, refl, sym}
 use borrow.Author.Needs.{needs}
 use lib.ListN.{length}
 use denote.Ref.{now}
-use Rattle.paper.proofs.Parts.{part-move}
+use Rattle.promises.proofs.Parts.{part-move}
 use Rattle.grammar.specs.Given.{fieldsIn, annotationFrom, lineAt}
 use Rattle.grammar.proofs.Parts.{line-within}
 use Rattle.sheet.proofs.annotation.Statement.{statement}

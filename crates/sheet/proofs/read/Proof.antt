@@ -6,7 +6,7 @@ use denote.Ref.{now}
 use Rattle.grammar.specs.Sheet.{Fields}
 use Rattle.grammar.specs.Read.{readSheet}
 use Rattle.grammar.specs.Given.{padded}
-use Rattle.outline.proofs.Outlined.{whole-given, broken-given, count-given}
+use Rattle.scan.proofs.Outlined.{whole-given, broken-given, count-given}
 use Rattle.sheet.proofs.read.Statement.{statement}
 use Rattle.sheet.proofs.read.Tie as tie
 

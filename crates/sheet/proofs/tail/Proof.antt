@@ -6,13 +6,13 @@ use mathlib.Core.Bool.{Bool}
 use borrow.Author.Needs.{needs}
 use lib.ListN.{length}
 use denote.Ref.{now}
-use Rattle.paper.specs.Choose.{choose}
+use Rattle.promises.specs.Choose.{choose}
 use Rattle.grammar.specs.Sheet.{Fields, front, lines}
 use Rattle.grammar.specs.Read.{readSheet}
 use Rattle.grammar.specs.Given.{fieldsIn, tailFrom}
-use Rattle.paper.proofs.Parts.{part-move}
+use Rattle.promises.proofs.Parts.{part-move}
 use Rattle.grammar.proofs.Parts.{tail-at, tail-size}
-use Rattle.outline.proofs.Outlined.{WholeGiven, whole-given, broken-given}
+use Rattle.scan.proofs.Outlined.{WholeGiven, whole-given, broken-given}
 use Rattle.sheet.proofs.tail.Statement.{statement}
 use Rattle.sheet.proofs.tail.Tie as tie
 

@@ -1,7 +1,7 @@
 -- `strip::copy_run` meets its contract.
 use Prim.Native.Nat.{_-_, zero-le}
 use native.Mathlib.Omega.{arith}
-use Rattle.paper.proofs.Fills.{by}
+use Rattle.promises.proofs.Fills.{by}
 use borrow.Author.Needs.{needs}
 use Rattle.strip.proofs.copy_run.Statement.{statement}
 use Rattle.strip.proofs.copy_run.Tie as tie

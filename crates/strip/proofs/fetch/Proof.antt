@@ -8,7 +8,7 @@ use borrow.Author.Needs.{needs}
 use Rattle.strip.proofs.fetch.Statement.{statement}
 use Rattle.strip.proofs.fetch.Tie as tie
 
--- where the call begins, and that past the test no length is refused
+-- where the function starts, and that past the test no length is refused
 abbrev start-of : tie.After-number → tie.Start
 start-of c = c .before .before .before .before
 

@@ -4,8 +4,8 @@ use mathlib.Core.Path.{_≡_, sym}
 use native.Mathlib.Omega.{arith}
 use borrow.Author.Needs.{needs}
 use denote.Ref.{now}
-use Rattle.paper.specs.Written.{Filled}
-use Rattle.paper.proofs.Fills.{none, upto}
+use Rattle.promises.specs.Written.{Filled}
+use Rattle.promises.proofs.Fills.{none, upto}
 use Rattle.counter.specs.Counter.{bytesOn}
 use Rattle.counter.proofs.Walks.{bytesOn-none}
 use Rattle.counter.proofs.Runs.{Aligned, runs-aligned}
@@ -44,8 +44,8 @@ copy-run-requires c κs = (
   omega (arith, c .before .before .before .loop .inv .2 .long),
 )
 
-pass-requires : tie.Need-pass-requires Inv-loop μ-loop
-pass-requires c κs = search needs
+carry-requires : tie.Need-carry-requires Inv-loop μ-loop
+carry-requires c κs = search needs
 
 add-n : tie.Need-add-n Inv-loop μ-loop
 add-n c = omega arith
@@ -58,7 +58,7 @@ loop-again c =
     let t = c .before .before .before .before .before .before .before in
     let s = t .before .before .before in (
       omega arith,
-      run-more _ _ (s .pre .1) _ (t .loop .inv .1) (c .pass .ensures),
+      run-more _ _ (s .pre .1) _ (t .loop .inv .1) (c .carry .ensures),
       line-more (s .args .settings) (now (s .args .image)) (s .pre .0) (s .args .from) (s .pre .1) (s .args .at) (t .loop .n)
           (rw (← t .loop .inv .1) (c .before .before .before .before .before .place .ensures)) (t .loop .inv .2) (c .before .before .before .copy-run .ensures),
     )
@@ -82,7 +82,7 @@ line-spec =
     mul-copy-run
     add-copy-run
     copy-run-requires
-    pass-requires
+    carry-requires
     add-n
     loop-less
     loop-again

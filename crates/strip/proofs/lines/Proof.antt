@@ -5,8 +5,8 @@ use native.Mathlib.Nat.{zero-mul}
 use native.Mathlib.Omega.{arith}
 use borrow.Author.Needs.{needs}
 use denote.Ref.{now}
-use Rattle.paper.specs.Written.{Filled}
-use Rattle.paper.proofs.Fills.{none, upto}
+use Rattle.promises.specs.Written.{Filled}
+use Rattle.promises.proofs.Fills.{none, upto}
 use Rattle.settings.specs.declared.Settings.{Settings}
 use Rattle.settings.specs.Modes.{width}
 use Rattle.counter.specs.Counter.{lineStart}
@@ -34,11 +34,11 @@ within c = line-within (settings c) (now (c .before .before .before .before .bef
 width-requires : tie.Need-width-requires Inv-loop μ-loop
 width-requires c κs = search needs
 
-first-requires : tie.Need-first-requires Inv-loop μ-loop
-first-requires c κs = search needs
+start-requires : tie.Need-start-requires Inv-loop μ-loop
+start-requires c κs = search needs
 
 loop-holds : tie.Need-loop-holds Inv-loop μ-loop
-loop-holds c = (search needs, rw lineStart-none (c .first .ensures), upto (sym (zero-mul _)) (none _ _ _))
+loop-holds c = (search needs, rw lineStart-none (c .start .ensures), upto (sym (zero-mul _)) (none _ _ _))
 
 mul-line : tie.Need-mul-line Inv-loop μ-loop
 mul-line c = rw (c .before .before .before .before .width .ensures) (omega (arith, within (c .before)))
@@ -55,8 +55,8 @@ line-requires c κs =
       omega (arith, whole-runs (settings p) .0, within p, l .2 .long, s .1),
     )
 
-line-end-requires : tie.Need-line-end-requires Inv-loop μ-loop
-line-end-requires c κs = search needs
+clear-requires : tie.Need-clear-requires Inv-loop μ-loop
+clear-requires c κs = search needs
 
 add-n : tie.Need-add-n Inv-loop μ-loop
 add-n c = omega arith
@@ -70,7 +70,7 @@ loop-again c =
     let w = t .before .before .width .ensures in
     let image = now (t .before .before .before .before .before .args .image) in
     let line = c .before .before .before .line .ensures in
-    (omega arith, start-more _ image _ w (t .loop .inv .1) (line .0) (c .line-end .ensures), frame-more _ image _ w (t .loop .inv .1) (t .loop .inv .2) (line .1))
+    (omega arith, start-more _ image _ w (t .loop .inv .1) (line .0) (c .clear .ensures), frame-more _ image _ w (t .loop .inv .1) (t .loop .inv .2) (line .1))
 
 same-length : tie.Need-same-length Inv-loop μ-loop
 same-length c = c .before .loop .inv .2 .long
@@ -85,11 +85,11 @@ lines-spec =
     Inv-loop
     μ-loop
     width-requires
-    first-requires
+    start-requires
     loop-holds
     mul-line
     line-requires
-    line-end-requires
+    clear-requires
     add-n
     loop-less
     loop-again

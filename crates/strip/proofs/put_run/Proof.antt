@@ -4,8 +4,8 @@ use mathlib.Core.Path.{ap}
 use native.Mathlib.Omega.{arith}
 use lib.ListN.{getD}
 use denote.Ref.{now}
-use Rattle.paper.specs.Written.{Filled}
-use Rattle.paper.proofs.Fills.{none, step, upto}
+use Rattle.promises.specs.Written.{Filled}
+use Rattle.promises.proofs.Fills.{none, step, upto}
 use Rattle.strip.proofs.put_run.Statement.{statement}
 use Rattle.strip.proofs.put_run.Tie as tie
 

@@ -3,8 +3,8 @@ use Prim.Native.Nat.{ℕ, _+_, _-_, _≤_}
 use mathlib.Core.Path.{refl}
 use native.Mathlib.Omega.{arith}
 use lib.ListN.{getD}
-use Rattle.paper.specs.Written.{Filled}
-use Rattle.paper.proofs.Fills.{none, more, upto}
+use Rattle.promises.specs.Written.{Filled}
+use Rattle.promises.proofs.Fills.{none, more, upto}
 use Rattle.strip.proofs.run_at.Statement.{statement}
 use Rattle.strip.proofs.run_at.Tie as tie
 

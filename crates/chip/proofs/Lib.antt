@@ -1,7 +1,0 @@
--- The laws of the chips.
-pub mod Places
-pub mod Shapes
-pub mod Crossings
-pub mod Answers
-pub mod Unique
-pub mod Twice

@@ -1,2 +1,0 @@
--- The laws of printing.
-pub mod Unique

@@ -1,0 +1,47 @@
+-- The report of a sheet (document 01, "The report"): its whole text.
+use Prim.Native.Nat.{ℕ}
+use mathlib.Core.List.{List, _++_}
+use lib.Dec.{eqb}
+use lib.ListN.{length}
+use Rattle.promises.specs.Choose.{choose}
+use Rattle.promises.specs.Told.{Told}
+use Rattle.settings.specs.declared.Settings.{Settings}
+use Rattle.settings.specs.Modes.{modeName}
+use Rattle.counter.specs.Counter.{addressOf}
+use Rattle.text.specs.Hex.{hex}
+use Rattle.grammar.specs.Sheet.{deedWord, pinsWord, lines}
+use Rattle.grammar.specs.Given.{fieldsIn}
+use Rattle.intake.specs.Intake.{settingsIn, intakeTold}
+use Rattle.report_text.specs.Words.{statusWord, placeWord, controlWord, modeWord, startWord, annotationsWord, decimal, lineOf}
+
+-- the lines of the text
+abbrev pub statusLine : Told → List ℕ
+statusLine t = lineOf statusWord (decimal (t .number))
+
+abbrev pub placeLine : Told → List ℕ
+placeLine t = lineOf placeWord (decimal (t .place))
+
+abbrev pub deedPrinted : List ℕ → List ℕ
+deedPrinted s = lineOf deedWord (fieldsIn s .deed)
+
+-- the number of annotations, and the annotation lines as they stand in the sheet
+abbrev pub annotated : List ℕ → List ℕ
+annotated s = lineOf annotationsWord (decimal (length (fieldsIn s .annotations))) ++ lines (fieldsIn s .annotations)
+
+-- what the chips were given: pins and control in capital hex digits
+abbrev pub givenLines : Settings → List ℕ
+givenLines s = lineOf pinsWord (hex 2 (s .look .pins)) ++ lineOf controlWord (hex 4 (s .word))
+
+-- what they show by it: the mode's name, and start in capital hex digits
+abbrev pub viewLines : Settings → List ℕ
+viewLines s = lineOf modeWord (modeName (s .look)) ++ lineOf startWord (hex 4 (addressOf s 0 0))
+
+abbrev pub settingLines : Settings → List ℕ
+settingLines s = givenLines s ++ viewLines s
+
+-- the whole report: a success, a broken sheet, or another refusal
+unfoldable pub reportOf : List ℕ → List ℕ
+reportOf s =
+    choose (eqb (intakeTold s .number) 0) (statusLine (intakeTold s) ++ (deedPrinted s ++ (settingLines (settingsIn s) ++ annotated s)))
+    (choose (eqb (intakeTold s .number) 11) (statusLine (intakeTold s) ++ placeLine (intakeTold s))
+    (statusLine (intakeTold s) ++ (placeLine (intakeTold s) ++ (deedPrinted s ++ annotated s))))

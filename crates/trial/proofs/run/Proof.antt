@@ -1,0 +1,17 @@
+-- `trial::run` meets its contract.
+use borrow.Author.Needs.{needs}
+use borrow.Author.Tests.{eq-eqb, ne-eqb}
+use Rattle.trial.proofs.run.Statement.{statement}
+use Rattle.trial.proofs.run.Tie as tie
+
+returns : tie.Need-returns
+returns c = simp (eq-eqb _ _ (c .if1 .taken))
+
+div-result : tie.Need-div-result
+div-result c = search needs
+
+returns-2 : tie.Need-returns-2
+returns-2 c = simp (ne-eqb _ _ (c .if1 .left))
+
+pub run-spec : {M : Type 1} → statement M
+run-spec = tie.close (tie.spec returns div-result returns-2)

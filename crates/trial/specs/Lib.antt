@@ -1,0 +1,2 @@
+-- What the trial programs lay in buffers and read off them.
+pub mod Buffers

@@ -1,0 +1,203 @@
+// Tries drawing: the dots of document 01's figures, letters and blocks, each refusal, and whole frames by their sums.
+// Prints a line for each.
+use answer::Answer;
+use settings::Look;
+use trial::answered;
+use trial::byte_at;
+use trial::cut;
+use trial::figure_name;
+use trial::form;
+use trial::lay;
+use trial::least;
+use trial::look_of;
+use trial::mark;
+use trial::one;
+use trial::say;
+use trial::sum;
+use trial::unchanged_from;
+ghost use Prim.Native.Nat.{_<_};
+
+// == Dots: figures P10 to P12, the text figures, and corners of the modes.
+
+// Prints eight pixels.
+fn eight(frame: &[u8], from: usize)
+    requires { ⌜ from < 65536 ⌝ }
+{
+    form(
+        b" # # # # # # # #",
+        &[
+            byte_at(frame, from),
+            byte_at(frame, from + 1),
+            byte_at(frame, from + 2),
+            byte_at(frame, from + 3),
+            byte_at(frame, from + 4),
+            byte_at(frame, from + 5),
+            byte_at(frame, from + 6),
+            byte_at(frame, from + 7),
+        ],
+    );
+}
+
+// Prints the dots of a line's first byte.
+fn first_dots(look: Look, frame: &[u8], line: usize)
+    requires { ⌜ line < 192 ⌝ }
+{
+    eight(frame, line * 256);
+    if settings::width(look) == 16 {
+        eight(frame, line * 256 + 8);
+    }
+    say(b"\n");
+}
+
+// Draws a strip that has one byte throughout, and prints the answer and a line's first dots.
+fn drawn(look: Look, byte: u8, line: usize, font: &[u8])
+    requires { ⌜ line < 192 ⌝ }
+{
+    let mut strip = [0u8; 6144];
+    let mut frame = [0u8; 49152];
+    lay(&mut strip, byte, 0, 0);
+    let a = frame::draw(look, font, &strip, &mut frame);
+    answered(a);
+    say(b", dots");
+    first_dots(look, &frame, line);
+}
+
+// A figure by its number, or 0.
+fn dots_of(n: usize, pins: usize, byte: usize, line: usize, font: &[u8])
+    requires { ⌜ line < 192 ⌝ }
+{
+    figure_name(n);
+    form(b"pins % byte % line #", &[pins, byte, line]);
+    drawn(look_of(pins), (byte % 256) as u8, line, font);
+}
+
+// Letters: inverted by DD6, exchanged by GM1, the two colours, other rows.
+// Then patterns: all six bits with GM0 = 0; with GM0 = 1 and DD6 = 1 five bits from 64 on.
+fn letters(font: &[u8]) {
+    dots_of(0, 0x00, 0x41, 0, font);
+    dots_of(0, 0x00, 0x01, 0, font);
+    dots_of(0, 0x01, 0x41, 0, font);
+    dots_of(0, 0x04, 0x41, 0, font);
+    dots_of(0, 0x00, 0x41, 12, font);
+    dots_of(0, 0x00, 0x41, 11, font);
+    dots_of(0, 0x02, 0x61, 0, font);
+    dots_of(0, 0x02, 0x41, 0, font);
+    dots_of(0, 0x02, 0x21, 0, font);
+    dots_of(0, 0x00, 0x21, 0, font);
+    dots_of(0, 0x06, 0x61, 0, font);
+}
+
+// Semigraphics 4: the unlit part is black in every colour, and GM does not matter.
+fn blocks(font: &[u8]) {
+    dots_of(12, 0x00, 0xB9, 5, font);
+    dots_of(12, 0x00, 0xB9, 6, font);
+    dots_of(0, 0x00, 0xB9, 11, font);
+    dots_of(0, 0x00, 0xB9, 12, font);
+    dots_of(0, 0x04, 0xB9, 5, font);
+    dots_of(0, 0x0F, 0xB9, 5, font);
+    dots_of(0, 0x00, 0x80, 0, font);
+    dots_of(0, 0x00, 0x90, 0, font);
+    dots_of(0, 0x01, 0xFF, 0, font);
+}
+
+// The figures of graphics, then blocks and letters.
+fn dots(font: &[u8]) {
+    dots_of(10, 0x20, 0x1B, 0, font);
+    dots_of(11, 0x2F, 0xA5, 0, font);
+    blocks(font);
+    letters(font);
+}
+
+// == Every look: the last line's first dots of one byte, and the sum of a whole frame.
+
+// Draws a frame, and prints its sum.
+fn frame_sum(pins: usize, font: &[u8], strip: &[u8]) {
+    let mut frame = [0u8; 49152];
+    let a = frame::draw(look_of(pins), font, strip, &mut frame);
+    one(b"frame pins %", pins);
+    answered(a);
+    one(b", sum #\n", sum(&frame));
+}
+
+// One look.
+fn look(pins: usize, byte: usize, font: &[u8], strip: &[u8]) {
+    dots_of(0, pins, byte, 191, font);
+    frame_sum(pins, font, strip);
+}
+
+// Eight looks: four modes, or half of the text looks, with either CSS; their borders are the values.
+fn looks(from: usize, byte: usize, font: &[u8], strip: &[u8])
+    requires { ⌜ from < 64 ⌝ }
+{
+    look(from, byte, font, strip);
+    look(from + 1, byte, font, strip);
+    look(from + 2, byte, font, strip);
+    look(from + 3, byte, font, strip);
+    look(from + 4, byte, font, strip);
+    look(from + 5, byte, font, strip);
+    look(from + 6, byte, font, strip);
+    look(from + 7, byte, font, strip);
+}
+
+// == Refusals and their order, with the frame held against what it was before.
+
+// The first n bytes to be written, or all where there are fewer.
+fn room(s: &mut [u8], n: usize) -> &mut [u8] {
+    let end = least(n, s.len());
+    &mut s[0..end]
+}
+
+// Draws on a marked frame, of buffers as long as told.
+fn draw(pins: usize, font: usize, strip: usize, frame: usize, patterns: &[u8], bytes: &[u8]) {
+    let mut buffer = [0u8; 50000];
+    mark(&mut buffer);
+    let a = frame::draw(
+        look_of(pins),
+        cut(patterns, font),
+        cut(bytes, strip),
+        room(&mut buffer, frame),
+    );
+    form(
+        b"draw pins % font # strip # frame #",
+        &[pins, font, strip, frame],
+    );
+    answered(a);
+    one(b", frame kept from #\n", unchanged_from(&buffer));
+}
+
+// The refusals of drawing in their order; the font's length is not asked for in graphics.
+fn refusals(font: &[u8], bytes: &[u8]) {
+    draw(0x40, 0, 0, 0, font, bytes);
+    draw(0x10, 0, 0, 0, font, bytes);
+    draw(0x00, 1151, 0, 0, font, bytes);
+    draw(0x00, 1153, 8192, 50000, font, bytes);
+    draw(0x00, 1152, 6143, 0, font, bytes);
+    draw(0x20, 1151, 3071, 0, font, bytes);
+    draw(0x00, 1152, 6144, 49151, font, bytes);
+    draw(0x20, 0, 3072, 49151, font, bytes);
+    draw(0x00, 1152, 6144, 49152, font, bytes);
+    draw(0x20, 0, 3072, 49152, font, bytes);
+    draw(0x30, 1151, 8192, 50000, font, bytes);
+}
+
+// All of them; the font and the strip have bytes too many, to be refused or passed over.
+fn draws(font: &[u8], strip: &[u8]) {
+    let right = cut(font, 1152);
+    dots(right);
+    looks(0x20, 0x1B, right, strip);
+    looks(0x28, 0x1B, right, strip);
+    looks(0x00, 0x41, right, strip);
+    looks(0x08, 0x41, right, strip);
+    refusals(font, strip);
+}
+
+// A font of varied bytes with rows of its own for patterns 1 and 65, and a strip of varied bytes.
+fn main() {
+    let mut font = [0u8; 1153];
+    let mut strip = [0u8; 8192];
+    mark(&mut font);
+    font[12] = 0x18;
+    font[780] = 0xC3;
+    lay(&mut strip, 0, 1, 61);
+    draws(&font, &strip);
+}

@@ -1,0 +1,234 @@
+// Tries fetching: the addresses of document 01's figures, each refusal, buffers of all lengths, and whole strips by their sums.
+// Prints a line for each.
+use answer::Answer;
+use counter::Counter;
+use settings::Settings;
+use trial::answered;
+use trial::byte_at;
+use trial::cut;
+use trial::figure_name;
+use trial::form;
+use trial::lay;
+use trial::least;
+use trial::mark;
+use trial::one;
+use trial::settings_of;
+use trial::sum;
+use trial::unchanged_from;
+ghost use Prim.Native.Nat.{_<_};
+
+// == Addresses: figures P5 to P9, by the counter and by fetching.
+
+// The counter after some bytes.
+fn bytes_on(settings: Settings, from: Counter, bytes: usize) -> Counter {
+    let mut counter = from;
+    let mut i: usize = 0;
+    while i < bytes {
+        counter = counter.advance(settings);
+        i += 1;
+    }
+    counter
+}
+
+// The counter before a line's first byte.
+fn line_start(settings: Settings, wide: usize, line: usize) -> Counter {
+    let mut counter = counter::start(settings);
+    let mut n: usize = 0;
+    while n < line {
+        let end = bytes_on(settings, counter, wide);
+        counter = end.clear(settings);
+        n += 1;
+    }
+    counter
+}
+
+// Where a line's byte stands in the strip.
+fn place(wide: usize, line: usize, byte: usize) -> usize
+    requires { ⌜ (line < 192) × (byte < 32) ⌝ }
+{
+    if wide == 16 {
+        line * 16 + byte
+    } else {
+        line * 32 + byte
+    }
+}
+
+// The address of a line's byte as the counter tells it.
+fn counted(settings: Settings, line: usize, byte: usize) -> u16 {
+    let start = line_start(settings, settings::width(settings.look), line);
+    let counter = bytes_on(settings, start, byte);
+    counter.address
+}
+
+// The byte at a place of the strip that is fetched from an image of 65,536 bytes, with M1 set for that length.
+fn fetched(word: usize, pins: usize, image: &[u8], k: usize) -> usize {
+    let mut strip = [0u8; 6144];
+    let settings = settings_of(word % 16384 + 0x4000, pins);
+    strip::fetch(settings, image, &mut strip);
+    byte_at(&strip, k)
+}
+
+// A figure: the address of a line's byte by the counter, and by what is fetched from the two images.
+fn address_figure(
+    n: usize,
+    word: usize,
+    pins: usize,
+    line: usize,
+    byte: usize,
+    low: &[u8],
+    high: &[u8],
+)
+    requires { ⌜ (line < 192) × (byte < 32) ⌝ }
+{
+    let settings = settings_of(word, pins);
+    let address = counted(settings, line, byte);
+    let k = place(settings::width(settings.look), line, byte);
+    figure_name(n);
+    form(b"word $ pins % line # byte #", &[word, pins, line, byte]);
+    form(
+        b": address $, fetched %%\n",
+        &[
+            address as usize,
+            fetched(word, pins, high, k),
+            fetched(word, pins, low, k),
+        ],
+    );
+}
+
+// The figures.
+fn addresses(low: &[u8], high: &[u8]) {
+    address_figure(5, 0x0011, 0x20, 2, 15, low, high);
+    address_figure(5, 0x0011, 0x20, 3, 0, low, high);
+    address_figure(5, 0x0011, 0x20, 191, 15, low, high);
+    address_figure(6, 0x0000, 0x00, 12, 0, low, high);
+    address_figure(6, 0x0000, 0x00, 191, 31, low, high);
+    address_figure(7, 0x03FE, 0x2E, 15, 31, low, high);
+    address_figure(7, 0x03FE, 0x2E, 16, 0, low, high);
+    address_figure(8, 0x0000, 0x20, 100, 0, low, high);
+    address_figure(9, 0x0001, 0x00, 0, 16, low, high);
+    address_figure(9, 0x0001, 0x00, 1, 16, low, high);
+}
+
+// == Refusals and their order, and lengths, with the strip held against what it was before.
+
+// The first n bytes to be written, or all where there are fewer.
+fn room(s: &mut [u8], n: usize) -> &mut [u8] {
+    let end = least(n, s.len());
+    &mut s[0..end]
+}
+
+// Fetches to a marked strip, of buffers as long as told.
+fn fetch(word: usize, pins: usize, image: usize, strip: usize, bytes: &[u8]) {
+    let mut buffer = [0u8; 8192];
+    mark(&mut buffer);
+    let settings = settings_of(word, pins);
+    let a = strip::fetch(settings, cut(bytes, image), room(&mut buffer, strip));
+    form(
+        b"fetch word $ pins % image # strip #",
+        &[word, pins, image, strip],
+    );
+    answered(a);
+    one(b", strip kept from #\n", unchanged_from(&buffer));
+}
+
+// The refusals of fetching in their order, each with all later conditions holding too, or alone.
+fn refusals(image: &[u8]) {
+    fetch(0x1000, 0x40, 65535, 0, image);
+    fetch(0x5000, 0x40, 65536, 8192, image);
+    fetch(0x5000, 0x64, 65536, 8192, image);
+    fetch(0x1000, 0x10, 65535, 0, image);
+    fetch(0x5000, 0x1F, 65536, 8192, image);
+    fetch(0x1000, 0x20, 65535, 0, image);
+    fetch(0x5000, 0x00, 65536, 8192, image);
+    fetch(0x0000, 0x20, 65535, 0, image);
+    fetch(0x0000, 0x00, 0, 8192, image);
+    fetch(0x4000, 0x20, 65536, 0, image);
+}
+
+// Image lengths.
+fn images(image: &[u8]) {
+    fetch(0x0000, 0x20, 4095, 8192, image);
+    fetch(0x0000, 0x20, 4097, 8192, image);
+    fetch(0x0000, 0x20, 12288, 8192, image);
+    fetch(0x0000, 0x20, 65535, 8192, image);
+    fetch(0x0000, 0x20, 4096, 8192, image);
+    fetch(0x0000, 0x20, 8192, 8192, image);
+    fetch(0x2000, 0x20, 16384, 8192, image);
+    fetch(0x2000, 0x20, 32768, 8192, image);
+}
+
+// Strip lengths, one byte short and just right; INT/EXT with A/G = 1; M, P, R0 and TY.
+fn strips(image: &[u8]) {
+    fetch(0x4000, 0x20, 65536, 3071, image);
+    fetch(0x4000, 0x20, 65536, 3072, image);
+    fetch(0x4000, 0x00, 65536, 6143, image);
+    fetch(0x4000, 0x00, 65536, 6144, image);
+    fetch(0x4000, 0x2E, 65536, 6143, image);
+    fetch(0x4000, 0x30, 65536, 8192, image);
+    fetch(0xEC00, 0x2E, 65536, 8192, image);
+}
+
+// == Whole strips by their sums.
+
+// Fetches the strip of an image as long as told, and prints its sum.
+fn strip_sum(word: usize, pins: usize, image: usize, bytes: &[u8]) {
+    let mut strip = [0u8; 6144];
+    let a = strip::fetch(settings_of(word, pins), cut(bytes, image), &mut strip);
+    form(b"strip word $ pins % image #", &[word, pins, image]);
+    answered(a);
+    one(b", sum #\n", sum(cut(&strip, answer::value(a))));
+}
+
+// Every SAM mode from a word on.
+fn modes(word: usize, pins: usize, image: usize, bytes: &[u8])
+    requires { ⌜ word < 65536 ⌝ }
+{
+    strip_sum(word, pins, image, bytes);
+    strip_sum(word + 1, pins, image, bytes);
+    strip_sum(word + 2, pins, image, bytes);
+    strip_sum(word + 3, pins, image, bytes);
+    strip_sum(word + 4, pins, image, bytes);
+    strip_sum(word + 5, pins, image, bytes);
+    strip_sum(word + 6, pins, image, bytes);
+    strip_sum(word + 7, pins, image, bytes);
+}
+
+// Text, then each graphics mode.
+fn sums(bytes: &[u8]) {
+    modes(0x4000, 0x00, 65536, bytes);
+    modes(0x4000, 0x20, 65536, bytes);
+    modes(0x4000, 0x22, 65536, bytes);
+    modes(0x4000, 0x24, 65536, bytes);
+    modes(0x4000, 0x26, 65536, bytes);
+    modes(0x4000, 0x28, 65536, bytes);
+    modes(0x4000, 0x2A, 65536, bytes);
+    modes(0x4000, 0x2C, 65536, bytes);
+    modes(0x4000, 0x2E, 65536, bytes);
+}
+
+// Starts 512 bytes before FFFF is passed, and before the end of an image of each other length.
+fn ends(bytes: &[u8]) {
+    modes(0x43F8, 0x20, 65536, bytes);
+    modes(0x43F8, 0x2E, 65536, bytes);
+    modes(0x03F8, 0x2E, 4096, bytes);
+    modes(0x0038, 0x2E, 4096, bytes);
+    modes(0x0078, 0x20, 8192, bytes);
+    modes(0x20F8, 0x2E, 16384, bytes);
+    modes(0x21F8, 0x00, 32768, bytes);
+}
+
+// Two images that tell the low and the high bytes of their addresses, and one in which no two rows or columns of a chip are alike.
+fn main() {
+    let mut low = [0u8; 65536];
+    let mut high = [0u8; 65536];
+    let mut varied = [0u8; 65536];
+    lay(&mut low, 0, 1, 0);
+    lay(&mut high, 0, 0, 256);
+    lay(&mut varied, 0, 1, 61);
+    addresses(&low, &high);
+    refusals(&low);
+    images(&low);
+    strips(&low);
+    sums(&varied);
+    ends(&varied);
+}

@@ -1,0 +1,124 @@
+// Tries both at once: each refusal, buffers of all lengths, and the ordinary pairs of modes by the sums of strip and frame.
+// Prints a line for each call.
+use answer::Answer;
+use trial::answered;
+use trial::cut;
+use trial::form;
+use trial::lay;
+use trial::least;
+use trial::mark;
+use trial::one;
+use trial::settings_of;
+use trial::sum;
+use trial::unchanged_from;
+
+// == Refusals and their order, with every buffer held against what it was before.
+
+// The first n bytes to be written, or all where there are fewer.
+fn room(s: &mut [u8], n: usize) -> &mut [u8] {
+    let end = least(n, s.len());
+    &mut s[0..end]
+}
+
+// Prints an answer, and from where on strip and frame were kept.
+fn told_both(a: Answer, strip: &[u8], frame: &[u8]) {
+    answered(a);
+    one(b", strip kept from #", unchanged_from(strip));
+    one(b", frame kept from #\n", unchanged_from(frame));
+}
+
+// Prints what both at once is lent.
+fn lent(word: usize, pins: usize, image: usize, font: usize, strip: usize, frame: usize) {
+    form(
+        b"show word $ pins % image # font # strip # frame #",
+        &[word, pins, image, font, strip, frame],
+    );
+}
+
+// Both at once on marked buffers as long as told.
+fn show(
+    word: usize,
+    pins: usize,
+    image: usize,
+    font: usize,
+    strip: usize,
+    frame: usize,
+    bytes: &[u8],
+    patterns: &[u8],
+) {
+    let mut fetched = [0u8; 8192];
+    let mut buffer = [0u8; 50000];
+    mark(&mut fetched);
+    mark(&mut buffer);
+    let a = screen::show(
+        settings_of(word, pins),
+        cut(bytes, image),
+        cut(patterns, font),
+        room(&mut fetched, strip),
+        room(&mut buffer, frame),
+    );
+    lent(word, pins, image, font, strip, frame);
+    told_both(a, &fetched, &buffer);
+}
+
+// The refusals of both at once in their order.
+fn refusals(image: &[u8], font: &[u8]) {
+    show(0x1000, 0x40, 65535, 0, 0, 0, image, font);
+    show(0x5000, 0x40, 65536, 1152, 8192, 50000, image, font);
+    show(0x5000, 0x64, 65536, 1152, 8192, 50000, image, font);
+    show(0x1000, 0x10, 65535, 0, 0, 0, image, font);
+    show(0x1000, 0x00, 65535, 0, 0, 0, image, font);
+    show(0x0000, 0x00, 65535, 0, 0, 0, image, font);
+    show(0x4000, 0x00, 65536, 1151, 0, 0, image, font);
+    show(0x4000, 0x00, 65536, 1152, 6143, 0, image, font);
+    show(0x4000, 0x20, 65536, 1151, 3071, 0, image, font);
+    show(0x4000, 0x00, 65536, 1152, 6144, 49151, image, font);
+    show(0x4000, 0x00, 65536, 1152, 6144, 49152, image, font);
+    show(0x4000, 0x20, 65536, 0, 8192, 50000, image, font);
+}
+
+// == The ordinary pairs of modes.
+
+// Prints the settings of both at once, the answer, and the sums of strip and frame.
+fn told_sums(word: usize, pins: usize, a: Answer, strip: &[u8], frame: &[u8]) {
+    form(b"show word $ pins %", &[word, pins]);
+    answered(a);
+    form(b", strip sum #, frame sum #\n", &[sum(strip), sum(frame)]);
+}
+
+// Both at once, with a strip as long as it has to be.
+fn pair(word: usize, pins: usize, strip: usize, image: &[u8], font: &[u8]) {
+    let mut fetched = [0u8; 6144];
+    let mut frame = [0u8; 49152];
+    let a = screen::show(
+        settings_of(word, pins),
+        image,
+        font,
+        room(&mut fetched, strip),
+        &mut frame,
+    );
+    told_sums(word, pins, a, cut(&fetched, strip), &frame);
+}
+
+// Text, then each graphics mode, with the SAM mode that goes with it.
+fn pairs(image: &[u8], font: &[u8]) {
+    pair(0x4000, 0x00, 6144, image, font);
+    pair(0x4001, 0x20, 3072, image, font);
+    pair(0x4001, 0x22, 3072, image, font);
+    pair(0x4002, 0x24, 6144, image, font);
+    pair(0x4003, 0x26, 3072, image, font);
+    pair(0x4004, 0x28, 6144, image, font);
+    pair(0x4005, 0x2A, 3072, image, font);
+    pair(0x4006, 0x2C, 6144, image, font);
+    pair(0x4006, 0x2E, 6144, image, font);
+}
+
+// An image and a font of varied bytes.
+fn main() {
+    let mut image = [0u8; 65536];
+    let mut font = [0u8; 1152];
+    lay(&mut image, 0, 1, 61);
+    mark(&mut font);
+    refusals(&image, &font);
+    pairs(&image, &font);
+}

@@ -1,0 +1,89 @@
+"""From strip to frame: the colour of each pixel in graphics, in text and in Semigraphics 4."""
+
+from pins import BLACK, BUFF, GREEN, ORANGE
+from pins import bit, dots, element_bits, is_graphics, width
+
+# The border, which drawing returns, is told by the pins alone.
+from pins import border
+
+LINES = 192
+COLUMNS = 256
+FRAME_LENGTH = COLUMNS * LINES
+ROWS = 12
+FONT_LENGTH = 96 * ROWS
+
+
+def element_colour(pins, value):
+    """The colour of an element by its value: of one bit in RG modes, of two in CG modes."""
+    css = bit(pins, "CSS")
+    if element_bits(pins) == 1:
+        lit = BUFF if css else GREEN
+        return lit if value else BLACK
+    return 4 + value if css else value
+
+
+def graphics_dot(pins, byte, dot):
+    """A dot of a byte in graphics. High bits stand left."""
+    size = element_bits(pins)
+    element = dot // dots(pins)
+    value = byte >> (8 - size * (element + 1)) & (2 ** size - 1)
+    return element_colour(pins, value)
+
+
+def pattern(pins, byte):
+    """The number of a character's pattern."""
+    if bit(pins, "GM0") == 1 and byte & 0x40:
+        return 64 + byte % 32
+    return byte % 64
+
+
+def inverted(pins, byte):
+    """Whether DD6 inverts the character: with GM0 = 0 only."""
+    return bit(pins, "GM0") == 0 and byte & 0x40 != 0
+
+
+def text_dot(pins, font, byte, row, dot):
+    """A dot of a byte below 128. Inverting exchanges the two colours, and GM1 = 1 does once more."""
+    lit = font[ROWS * pattern(pins, byte) + row] >> (7 - dot) & 1 == 1
+    if inverted(pins, byte):
+        lit = not lit
+    if bit(pins, "GM1") == 1:
+        lit = not lit
+    ink = ORANGE if bit(pins, "CSS") else GREEN
+    return ink if lit else BLACK
+
+
+def semigraphics_dot(byte, row, dot):
+    """A dot of a byte of 128 or more: four parts of 4 dots by 6 lines, lit by bits 3, 2, 1, 0."""
+    right = dot // 4
+    bottom = row // 6
+    lit = byte >> (3 - right - 2 * bottom) & 1
+    colour = byte >> 4 & 7
+    return colour if lit else BLACK
+
+
+def dot_colour(pins, font, byte, row, dot):
+    """A dot of a byte, on a line whose number mod 12 is the row."""
+    if is_graphics(pins):
+        return graphics_dot(pins, byte, dot)
+    if byte >= 128:
+        return semigraphics_dot(byte, row, dot)
+    return text_dot(pins, font, byte, row, dot)
+
+
+def byte_dots(pins, font, byte, row):
+    """All dots of a byte on a line: a line's 256 pixels are shared by its W bytes."""
+    return bytes(dot_colour(pins, font, byte, row, dot) for dot in range(COLUMNS // width(pins)))
+
+
+def frame(pins, font, strip):
+    """The 256 × 192 pixels, line by line. Equal bytes on equal rows are looked at once."""
+    known = {}
+    pixels = bytearray()
+    for line in range(LINES):
+        row = line % ROWS
+        for byte in strip[line * width(pins):(line + 1) * width(pins)]:
+            if (byte, row) not in known:
+                known[byte, row] = byte_dots(pins, font, byte, row)
+            pixels += known[byte, row]
+    return bytes(pixels)

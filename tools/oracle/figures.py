@@ -1,0 +1,113 @@
+"""Figures to check by: document 01's own figures, held against these modules."""
+
+import draw
+import fetch
+import numbers
+import pins
+import report
+import sheet
+import word
+
+TEXT, CG1, RG6 = 0x00, 0x20, 0x2E
+
+
+def address(control, pin_byte, line, byte):
+    """The address of a line's byte."""
+    return fetch.addresses(control, pin_byte)[line * pins.width(pin_byte) + byte]
+
+
+def drawn(pin_byte, byte, line, font=bytes(1152)):
+    """The dots of one byte on a line."""
+    return list(draw.byte_dots(pin_byte, font, byte, line % 12))
+
+
+def font_with(pattern, row):
+    """A font that is empty but for row 0 of one pattern."""
+    font = bytearray(1152)
+    font[12 * pattern] = row
+    return bytes(font)
+
+
+def read_back(pin_byte, colour, place):
+    """What is told of a frame of one colour but for a 1 at a place."""
+    frame = bytearray([colour]) * 49152
+    frame[place] = 1
+    return numbers.read_back(pin_byte, frame, bytearray(6144))
+
+
+def control_writes():
+    """P1 to P4."""
+    yield "P1", word.play(0x0000, [0xFFC1, 0xFFC9, 0xFFD6]), (0, 0, 0x0011)
+    yield "P2", word.play(0x0000, [0xFFDF]), (0, 0, 0x8000)
+    yield "P3", word.play(0xFFFF, [0xFFC0]), (0, 0, 0xFFFE)
+    yield "P4", word.play(0x0000, [0xFFC1, 0xFFBF]), (10, 1, 0x0000)
+
+
+def fetched_addresses():
+    """P5 to P9."""
+    yield "P5", address(0x0011, CG1, 2, 15), 0x040F
+    yield "P5", address(0x0011, CG1, 3, 0), 0x0410
+    yield "P5", address(0x0011, CG1, 191, 15), 0x07FF
+    yield "P6", address(0x0000, TEXT, 12, 0), 0x0020
+    yield "P6", address(0x0000, TEXT, 191, 31), 0x01FF
+    yield "P7", address(0x03FE, RG6, 15, 31), 0xFFFF
+    yield "P7", address(0x03FE, RG6, 16, 0), 0x0000
+    yield "P8", address(0x0000, CG1, 100, 0), 0x0000
+    yield "P9", address(0x0001, TEXT, 0, 16), 0x0000
+    yield "P9", address(0x0001, TEXT, 1, 16), 0x0010
+
+
+def dots():
+    """P10 to P12 and the text figures."""
+    yield "P10", drawn(CG1, 0x1B, 0), [0] * 4 + [1] * 4 + [2] * 4 + [3] * 4
+    yield "P11", drawn(RG6 + 1, 0xA5, 0), [4, 8, 4, 8, 8, 4, 8, 4]
+    yield "P12", drawn(TEXT, 0xB9, 5), [3] * 4 + [8] * 4
+    yield "P12", drawn(TEXT, 0xB9, 6), [8] * 4 + [3] * 4
+    yield "text 41", drawn(TEXT, 0x41, 0, font_with(1, 0x18)), [0, 0, 0, 8, 8, 0, 0, 0]
+    yield "pins 02 text 61", draw.pattern(0x02, 0x61), 65
+
+
+def refusals():
+    """Stray pixels, sheets, and pins 64 with R1 set."""
+    head = b"deed=K\npins=20\nwrites=6"
+    yield "RG6 stray", read_back(RG6, 8, 49151), (9, 49151, 0)
+    yield "CG1 stray", read_back(CG1, 0, 5), (9, 5, 0)
+    yield "empty sheet", sheet.read(b"")[:2], (11, 0)
+    yield "empty deed", sheet.read(b"deed=\n")[:2], (11, 5)
+    yield "writes=65", sheet.read(head + b"5\n")[:2], (11, len(head))
+    yield "pins 64 with R1", numbers.fetch(0x1000, 64, bytes(65536), bytearray(6144)), (1, 0, 0)
+
+
+def longest_sheet():
+    """The length that document 01 gives the longest sheet, which is accepted."""
+    fixed = b"deed=" + b"A" * 16 + b"\npins=FF\nwrites=64\n" + b"at=FFC0\n" * 64
+    longest = fixed + (b"k" * 16 + b"=" + b"v" * 120 + b"\n") * 200
+    yield "longest sheet", (len(longest), sheet.read(longest).number), (28152, 0)
+
+
+def reports():
+    """The report's example, and with pins=10."""
+    example = (
+        b"deed=K-104\npins=20\nwrites=3\nat=FFC1\nat=FFC9\nat=FFD6\n"
+        b"plan-note=north corner\ncolour=\n"
+    )
+    yield "report", report.text(example), (
+        b"status=0\ndeed=K-104\npins=20\ncontrol=0011\nmode=CG1\nstart=0400\n"
+        b"annotations=2\nplan-note=north corner\ncolour=\n"
+    )
+    yield "report pins=10", report.text(example.replace(b"pins=20", b"pins=10")), (
+        b"status=2\nplace=0\ndeed=K-104\nannotations=2\nplan-note=north corner\ncolour=\n"
+    )
+
+
+CHAPTERS = (control_writes, fetched_addresses, dots, refusals, longest_sheet, reports)
+
+
+def wrong():
+    """A line for each figure that these modules do not meet."""
+    return [
+        "document 01, %s: expected %r, found %r" % (name, said, found)
+        for chapter in CHAPTERS
+        for name, found, said in chapter()
+        if found != said
+    ]

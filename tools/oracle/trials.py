@@ -1,0 +1,604 @@
+"""What each trial program prints: its questions are read off crates/NAME/src/main.rt, the answers come from the chapters."""
+
+import chips
+import fetch
+import numbers
+import pins
+import report
+import sheet
+import word
+
+# == Buffers: made, and held against what they were.
+
+
+def tell(length, per=1):
+    """An image that tells its addresses: each byte is the low byte of its place divided by `per`."""
+    return bytes(i // per % 256 for i in range(length))
+
+
+def vary(length):
+    """Varied bytes that tell their places: no two rows or columns of a bank are alike."""
+    return bytes((i + i // 61) % 256 for i in range(length))
+
+
+def mark(length):
+    """A marked buffer: a byte of its own at each of 256 places."""
+    return bytearray((131 + 5 * i) % 256 for i in range(length))
+
+
+def room(buffer, length):
+    """The first bytes of a buffer, to be written."""
+    return memoryview(buffer)[:length]
+
+
+def kept_from(buffer):
+    """The place from which on a buffer is as it was marked: 0 where it was kept whole."""
+    marked = mark(len(buffer))
+    for i in range(len(buffer), 0, -1):
+        if buffer[i - 1] != marked[i - 1]:
+            return i
+    return 0
+
+
+def total(content):
+    """A sum that each byte and its place counts in."""
+    found = 0
+    for byte in content:
+        found = (found * 31 + byte) % 65521
+    return found
+
+
+# == What is printed of an answer, and of bytes.
+
+
+def number_and_place(answer):
+    """An answer's number and place."""
+    return ": number %d place %d" % answer[:2]
+
+
+def told(answer):
+    """An answer's number, place and value."""
+    return ": number %d place %d value %d" % answer
+
+
+def figure_name(figure):
+    """The number of the figure that a line is, if it is one."""
+    return "P%d " % figure if figure else ""
+
+
+def escape(byte):
+    """A byte so that it can be read."""
+    if byte == 10:
+        return "\\n"
+    if byte < 32 or byte > 126:
+        return "\\x%02X" % byte
+    return chr(byte)
+
+
+def quoted(content):
+    """Bytes in brackets."""
+    return "[" + "".join(escape(byte) for byte in content) + "]"
+
+
+# == try_control
+
+
+def play_line(figure, start, *writes):
+    """Control writes, with the word that is told."""
+    answer = word.play(start, writes)
+    listed = "".join(" %04X" % address for address in writes)
+    line = "%splay from %04X writes%s" % (figure_name(figure), start, listed)
+    return line + number_and_place(answer) + " word %04X" % answer[2]
+
+
+def try_control():
+    """P1 to P4, each bit set and cleared, and corners."""
+    yield play_line(1, 0x0000, 0xFFC1, 0xFFC9, 0xFFD6)
+    yield play_line(2, 0x0000, 0xFFDF)
+    yield play_line(3, 0xFFFF, 0xFFC0)
+    yield play_line(4, 0x0000, 0xFFC1, 0xFFBF)
+    for i in range(16):
+        yield play_line(0, 0x0000, 0xFFC1 + 2 * i)
+        yield play_line(0, 0xFFFF, 0xFFC0 + 2 * i)
+    yield play_line(0, 0x1234)
+    yield play_line(0, 0x1234, 0xFFBF)
+    yield play_line(0, 0x1234, 0xFFE0)
+    yield play_line(0, 0x1234, 0xFFC1, 0xFFDF, 0x0000, 0xFFC3, 0xFFE0)
+    yield play_line(0, 0x0000, 0xFFC1, 0xFFC0, 0xFFC1)
+
+
+# == try_fetch
+
+
+def fetched(control, pin_byte, image, place):
+    """The byte at a place of the strip that is fetched from an image."""
+    strip = bytearray(6144)
+    numbers.fetch(control, pin_byte, image, strip)
+    return strip[place]
+
+
+def address_line(figure, control, pin_byte, line, byte):
+    """The address of a line's byte by the counter, and by what is fetched, with M1 set, from two images that tell their addresses."""
+    place = line * pins.width(pin_byte) + byte
+    address = fetch.addresses(control, pin_byte)[place]
+    low = fetched(control | 0x4000, pin_byte, tell(65536), place)
+    high = fetched(control | 0x4000, pin_byte, tell(65536, 256), place)
+    asked = "word %04X pins %02X line %d byte %d" % (control, pin_byte, line, byte)
+    return "%s%s: address %04X, fetched %02X%02X" % (figure_name(figure), asked, address, high, low)
+
+
+def addresses_lines():
+    """P5 to P9."""
+    yield address_line(5, 0x0011, 0x20, 2, 15)
+    yield address_line(5, 0x0011, 0x20, 3, 0)
+    yield address_line(5, 0x0011, 0x20, 191, 15)
+    yield address_line(6, 0x0000, 0x00, 12, 0)
+    yield address_line(6, 0x0000, 0x00, 191, 31)
+    yield address_line(7, 0x03FE, 0x2E, 15, 31)
+    yield address_line(7, 0x03FE, 0x2E, 16, 0)
+    yield address_line(8, 0x0000, 0x20, 100, 0)
+    yield address_line(9, 0x0001, 0x00, 0, 16)
+    yield address_line(9, 0x0001, 0x00, 1, 16)
+
+
+def fetch_line(control, pin_byte, image_length, strip_length):
+    """Fetches to a marked strip, of buffers as long as told."""
+    strip = mark(8192)
+    answer = numbers.fetch(control, pin_byte, tell(65536)[:image_length], room(strip, strip_length))
+    asked = "fetch word %04X pins %02X image %d strip %d" % (control, pin_byte, image_length, strip_length)
+    return asked + told(answer) + ", strip kept from %d" % kept_from(strip)
+
+
+def fetches_lines():
+    """The refusals of fetching in their order."""
+    yield fetch_line(0x1000, 0x40, 65535, 0)
+    yield fetch_line(0x5000, 0x40, 65536, 8192)
+    yield fetch_line(0x5000, 0x64, 65536, 8192)
+    yield fetch_line(0x1000, 0x10, 65535, 0)
+    yield fetch_line(0x5000, 0x1F, 65536, 8192)
+    yield fetch_line(0x1000, 0x20, 65535, 0)
+    yield fetch_line(0x5000, 0x00, 65536, 8192)
+    yield fetch_line(0x0000, 0x20, 65535, 0)
+    yield fetch_line(0x0000, 0x00, 0, 8192)
+    yield fetch_line(0x4000, 0x20, 65536, 0)
+
+
+def lengths_lines():
+    """Image lengths, then strip lengths and bits of the word that alter nothing."""
+    for length in (4095, 4097, 12288, 65535, 4096, 8192):
+        yield fetch_line(0x0000, 0x20, length, 8192)
+    for length in (16384, 32768):
+        yield fetch_line(0x2000, 0x20, length, 8192)
+    yield fetch_line(0x4000, 0x20, 65536, 3071)
+    yield fetch_line(0x4000, 0x20, 65536, 3072)
+    yield fetch_line(0x4000, 0x00, 65536, 6143)
+    yield fetch_line(0x4000, 0x00, 65536, 6144)
+    yield fetch_line(0x4000, 0x2E, 65536, 6143)
+    yield fetch_line(0x4000, 0x30, 65536, 8192)
+    yield fetch_line(0xEC00, 0x2E, 65536, 8192)
+
+
+def strip_sum_lines(control, pin_byte, image_length):
+    """Every SAM mode from a word on: the sum of the whole strip of an image as long as told."""
+    for mode in range(8):
+        strip = bytearray(6144)
+        answer = numbers.fetch(control + mode, pin_byte, vary(image_length), strip)
+        asked = "strip word %04X pins %02X image %d" % (control + mode, pin_byte, image_length)
+        yield asked + told(answer) + ", sum %d" % total(strip[:answer[2]])
+
+
+def strips_lines():
+    """Text and each graphics mode, then starts 512 bytes before FFFF is passed or before an image's end."""
+    for pin_byte in (0x00, 0x20, 0x22, 0x24, 0x26, 0x28, 0x2A, 0x2C, 0x2E):
+        yield from strip_sum_lines(0x4000, pin_byte, 65536)
+    yield from strip_sum_lines(0x43F8, 0x20, 65536)
+    yield from strip_sum_lines(0x43F8, 0x2E, 65536)
+    yield from strip_sum_lines(0x03F8, 0x2E, 4096)
+    yield from strip_sum_lines(0x0038, 0x2E, 4096)
+    yield from strip_sum_lines(0x0078, 0x20, 8192)
+    yield from strip_sum_lines(0x20F8, 0x2E, 16384)
+    yield from strip_sum_lines(0x21F8, 0x00, 32768)
+
+
+def try_fetch():
+    """Addresses, refusals and lengths, and whole strips."""
+    yield from addresses_lines()
+    yield from fetches_lines()
+    yield from lengths_lines()
+    yield from strips_lines()
+
+
+# == try_draw
+
+
+def draw_font(length):
+    """A marked font with rows of its own for patterns 1 and 65."""
+    font = mark(length)
+    font[12] = 0x18
+    font[780] = 0xC3
+    return font
+
+
+def dots_line(figure, pin_byte, byte, line):
+    """A strip that has one byte throughout is drawn: the answer, and the dots of the line's first byte."""
+    frame = bytearray(49152)
+    answer = numbers.draw(pin_byte, draw_font(1152), bytes([byte]) * 6144, frame)
+    wide = 256 // pins.width(pin_byte)
+    shown = "".join(" %d" % pixel for pixel in frame[line * 256:line * 256 + wide])
+    asked = "%spins %02X byte %02X line %d" % (figure_name(figure), pin_byte, byte, line)
+    return asked + told(answer) + ", dots" + shown
+
+
+def blocks_lines():
+    """Semigraphics 4."""
+    yield dots_line(12, 0x00, 0xB9, 5)
+    yield dots_line(12, 0x00, 0xB9, 6)
+    yield dots_line(0, 0x00, 0xB9, 11)
+    yield dots_line(0, 0x00, 0xB9, 12)
+    yield dots_line(0, 0x04, 0xB9, 5)
+    yield dots_line(0, 0x0F, 0xB9, 5)
+    yield dots_line(0, 0x00, 0x80, 0)
+    yield dots_line(0, 0x00, 0x90, 0)
+    yield dots_line(0, 0x01, 0xFF, 0)
+
+
+def letters_lines():
+    """Text: inverting, exchanging, rows and patterns."""
+    yield dots_line(0, 0x00, 0x41, 0)
+    yield dots_line(0, 0x00, 0x01, 0)
+    yield dots_line(0, 0x01, 0x41, 0)
+    yield dots_line(0, 0x04, 0x41, 0)
+    yield dots_line(0, 0x00, 0x41, 12)
+    yield dots_line(0, 0x00, 0x41, 11)
+    yield dots_line(0, 0x02, 0x61, 0)
+    yield dots_line(0, 0x02, 0x41, 0)
+    yield dots_line(0, 0x02, 0x21, 0)
+    yield dots_line(0, 0x00, 0x21, 0)
+    yield dots_line(0, 0x06, 0x61, 0)
+
+
+def look_lines(pin_byte, byte):
+    """One look: the dots of one byte, and the sum of a whole frame."""
+    yield dots_line(0, pin_byte, byte, 191)
+    frame = bytearray(49152)
+    answer = numbers.draw(pin_byte, draw_font(1152), vary(8192), frame)
+    yield "frame pins %02X" % pin_byte + told(answer) + ", sum %d" % total(frame)
+
+
+def draw_line(pin_byte, font_length, strip_length, frame_length):
+    """Draws on a marked frame, of buffers as long as told."""
+    font = draw_font(1153)[:font_length]
+    frame = mark(50000)
+    answer = numbers.draw(pin_byte, font, vary(8192)[:strip_length], room(frame, frame_length))
+    asked = "draw pins %02X font %d strip %d frame %d" % (pin_byte, font_length, strip_length, frame_length)
+    return asked + told(answer) + ", frame kept from %d" % kept_from(frame)
+
+
+def draws_lines():
+    """The refusals of drawing in their order."""
+    yield draw_line(0x40, 0, 0, 0)
+    yield draw_line(0x10, 0, 0, 0)
+    yield draw_line(0x00, 1151, 0, 0)
+    yield draw_line(0x00, 1153, 8192, 50000)
+    yield draw_line(0x00, 1152, 6143, 0)
+    yield draw_line(0x20, 1151, 3071, 0)
+    yield draw_line(0x00, 1152, 6144, 49151)
+    yield draw_line(0x20, 0, 3072, 49151)
+    yield draw_line(0x00, 1152, 6144, 49152)
+    yield draw_line(0x20, 0, 3072, 49152)
+    yield draw_line(0x30, 1151, 8192, 50000)
+
+
+def try_draw():
+    """P10 to P12, blocks and letters, every graphics mode and every text look with either CSS, and refusals."""
+    yield dots_line(10, 0x20, 0x1B, 0)
+    yield dots_line(11, 0x2F, 0xA5, 0)
+    yield from blocks_lines()
+    yield from letters_lines()
+    for i in range(16):
+        yield from look_lines(0x20 + i, 0x1B)
+    for i in range(16):
+        yield from look_lines(0x00 + i, 0x41)
+    yield from draws_lines()
+
+
+# == try_show
+
+
+def show_line(control, pin_byte, *lengths):
+    """Both at once on marked buffers. The lengths are those of image, font, strip and frame."""
+    image = vary(65536)[:lengths[0]]
+    font = mark(1152)[:lengths[1]]
+    strip = mark(8192)
+    frame = mark(50000)
+    answer = numbers.show(control, pin_byte, image, font, room(strip, lengths[2]), room(frame, lengths[3]))
+    asked = "show word %04X pins %02X image %d font %d strip %d frame %d" % (control, pin_byte, *lengths)
+    kept = ", strip kept from %d, frame kept from %d" % (kept_from(strip), kept_from(frame))
+    return asked + told(answer) + kept
+
+
+def shows_lines():
+    """The refusals of both at once in their order."""
+    yield show_line(0x1000, 0x40, 65535, 0, 0, 0)
+    yield show_line(0x5000, 0x40, 65536, 1152, 8192, 50000)
+    yield show_line(0x5000, 0x64, 65536, 1152, 8192, 50000)
+    yield show_line(0x1000, 0x10, 65535, 0, 0, 0)
+    yield show_line(0x1000, 0x00, 65535, 0, 0, 0)
+    yield show_line(0x0000, 0x00, 65535, 0, 0, 0)
+    yield show_line(0x4000, 0x00, 65536, 1151, 0, 0)
+    yield show_line(0x4000, 0x00, 65536, 1152, 6143, 0)
+    yield show_line(0x4000, 0x20, 65536, 1151, 3071, 0)
+    yield show_line(0x4000, 0x00, 65536, 1152, 6144, 49151)
+    yield show_line(0x4000, 0x00, 65536, 1152, 6144, 49152)
+    yield show_line(0x4000, 0x20, 65536, 0, 8192, 50000)
+
+
+def pair_line(control, pin_byte):
+    """An ordinary pair of modes: the sums of strip and frame."""
+    strip, frame = bytearray(192 * pins.width(pin_byte)), bytearray(49152)
+    answer = numbers.show(control, pin_byte, vary(65536), mark(1152), strip, frame)
+    asked = "show word %04X pins %02X" % (control, pin_byte)
+    return asked + told(answer) + ", strip sum %d, frame sum %d" % (total(strip), total(frame))
+
+
+# The SAM mode that goes with text, and with each graphics mode.
+PAIRS = ((0, 0x00), (1, 0x20), (1, 0x22), (2, 0x24), (3, 0x26), (4, 0x28), (5, 0x2A), (6, 0x2C), (6, 0x2E))
+
+
+def try_show():
+    """Both at once: refusals, and the ordinary pairs of modes."""
+    yield from shows_lines()
+    for mode, pin_byte in PAIRS:
+        yield pair_line(0x4000 + mode, pin_byte)
+
+
+# == try_back
+
+
+def back_line(pin_byte, strip_length, frame_length, colour, pixel, place):
+    """Reads back a frame of one colour but for the pixel at a place, of buffers as long as told."""
+    pixels = bytearray([colour]) * 50000
+    pixels[place] = pixel
+    strip = mark(8192)
+    answer = numbers.read_back(pin_byte, pixels[:frame_length], room(strip, strip_length))
+    asked = "back pins %02X strip %d frame %d" % (pin_byte, strip_length, frame_length)
+    asked += " all %d but %d at %d" % (colour, pixel, place)
+    return asked + told(answer) + ", strip kept from %d" % kept_from(strip)
+
+
+def backs_lines():
+    """The refusals of reading back in their order, and what is stray."""
+    yield back_line(0x40, 0, 0, 9, 9, 0)
+    yield back_line(0x00, 0, 0, 9, 9, 0)
+    yield back_line(0x20, 3071, 0, 9, 9, 0)
+    yield back_line(0x20, 3072, 49151, 9, 9, 0)
+    yield back_line(0x20, 3072, 49152, 9, 9, 0)
+    yield back_line(0x2E, 6144, 49152, 8, 1, 49151)
+    yield back_line(0x20, 3072, 49152, 0, 1, 5)
+    yield back_line(0x20, 3072, 49152, 0, 1, 4)
+    yield back_line(0x20, 3072, 49152, 0, 4, 8)
+    yield back_line(0x2E, 6144, 49152, 8, 0, 49151)
+    yield back_line(0x30, 8192, 50000, 0, 9, 49152)
+
+
+def drawn_line(pin_byte):
+    """A strip of varied bytes is drawn, and its frame read back."""
+    frame, read = bytearray(49152), bytearray(6144)
+    numbers.draw(pin_byte, b"", vary(6144), frame)
+    answer = numbers.read_back(pin_byte, frame, read)
+    return "drawn and back pins %02X" % pin_byte + told(answer) + ", sum %d" % total(read[:answer[2]])
+
+
+def try_back():
+    """Reading back: refusals and what is stray, and every graphics mode with either CSS."""
+    yield from backs_lines()
+    for i in range(16):
+        yield drawn_line(0x20 + i)
+
+
+# == try_sheet
+
+
+def read_line(given):
+    """What a sheet yields: its fields, the first annotation, the last, and one past the last."""
+    found = sheet.read(given)
+    count = len(found.annotations)
+    line = number_and_place(found[:2])
+    line += " pins %02X writes %d annotations %d" % (found.pins, len(found.writes), count)
+    line += " deed " + quoted(found.deed)
+    line += " first " + quoted(sheet.annotation(given, 0))
+    if count > 0:
+        line += " last " + quoted(sheet.annotation(given, count - 1))
+    return line + " past " + quoted(sheet.annotation(given, count))
+
+
+def corner_lines(head, *rests):
+    """Each sheet that goes on from a head."""
+    for rest in rests:
+        yield quoted(head + rest) + read_line(head + rest)
+
+
+def long_line(head, writes, keys, values, count, more):
+    """A long sheet: a head, writes, `count` lines with keys and values as long as told, and some bytes more."""
+    line = b"k" * keys + b"=" + b"v" * values + b"\n"
+    given = head + b"at=FFC1\n" * writes + line * count + b"a" * more
+    asked = "writes %d, %d lines with keys of %d and values of %d" % (writes, count, keys, values)
+    return asked + ", %d more, %d bytes" % (more, len(given)) + read_line(given)
+
+
+def heads_lines():
+    """The fixed lines."""
+    yield from corner_lines(b"", b"", b"deed=\n", b"dee", b"deed=K", b"deed=K\r\n", b"deed=" + b"A" * 17 + b"\n")
+    yield from corner_lines(b"deed=K\n", b"pins=2a\nwrites=0\n", b"pins=2\n", b"pins=200\n")
+    head = b"deed=K\npins=20\n"
+    yield from corner_lines(head, b"writes=65\n", b"writes=00\n", b"writes=07\n", b"writes=7x\n")
+    yield from corner_lines(head, b"writes=\n", b"writes=640\n")
+    head += b"writes=1\n"
+    yield from corner_lines(head, b"colour=\n", b"a-=\n", b"at=FFc1\n", b"at=FFC1\n", b"")
+
+
+def tails_lines():
+    """Annotations refused, and accepted."""
+    head = b"deed=K\npins=20\nwrites=0\n"
+    yield from corner_lines(head, b"", b"deed=x\n", b"pins=20\n", b"writes=0\n", b"at=0000\n")
+    yield from corner_lines(head, b"a" * 17 + b"=\n", b"=x\n", b"\n", b"a=x")
+    yield from corner_lines(head, b"deeds=x\n", b"a" * 16 + b"=\n", b"a=x\r\n")
+    yield from corner_lines(head, b"a==\x00\xff\x80=\n", b"a=1\na=2\nb=3\n")
+    yield from corner_lines(b"deed=----------------\npins=FF\nwrites=0\n", b"")
+
+
+def longs_lines():
+    """Values, lines and sheets as long as may be, and longer by one."""
+    head = b"deed=K\npins=20\nwrites=0\n"
+    yield long_line(head, 0, 1, 121, 1, 0)
+    yield long_line(head, 0, 1, 120, 1, 0)
+    yield long_line(head, 0, 1, 0, 201, 0)
+    yield long_line(head, 0, 1, 0, 200, 0)
+    head = b"deed=----------------\npins=FF\nwrites=64\n"
+    yield long_line(head, 64, 16, 120, 200, 0)
+    yield long_line(head, 64, 16, 120, 200, 1)
+
+
+def try_sheet():
+    """Corners of the sheet."""
+    yield from heads_lines()
+    yield from tails_lines()
+    yield from longs_lines()
+
+
+# == try_report
+
+REPORTED = (
+    b"deed=K-104\npins=20\nwrites=3\nat=FFC1\nat=FFC9\nat=FFD6\nplan-note=north corner\ncolour=\n",
+    b"deed=K-104\npins=10\nwrites=3\nat=FFC1\nat=FFC9\nat=FFD6\nplan-note=north corner\ncolour=\n",
+    b"deed=K\npins=40\nwrites=0\n",
+    b"deed=K\npins=20\nwrites=1\nat=FFD9\na=b\n",
+    b"deed=K\npins=20\nwrites=2\nat=FFD9\nat=FFD8\n",
+    b"deed=K\npins=20\nwrites=2\nat=FFC1\nat=FFBF\n",
+    b"deed=K\npins=FF\nwrites=1\nat=0000\n",
+    b"deed=K\npins=FF\nwrites=1\nat=FFD9\n",
+    b"deed=K\npins=10\nwrites=1\nat=FFD9\n",
+    b"deed=K\npins=30\nwrites=1\nat=FFD3\n",
+    b"deed=K\npins=06\nwrites=0\n",
+    b"deed=K\npins=2F\nwrites=0\n",
+    b"",
+    b"deed=k\n",
+    b"deed=K\npins=2a\n",
+    b"deed=K\npins=20\nwrites=65\n",
+    b"deed=K\npins=20\nwrites=1\nat=0\n",
+    b"deed=K\npins=20\nwrites=0\nA=\n",
+)
+
+
+def try_report():
+    """Each sheet with its report, line by line."""
+    for given in REPORTED:
+        yield "report of " + quoted(given)
+        yield from report.text(given).decode("latin-1").split("\n")[:-1]
+
+
+# == try_chip
+
+
+def bank_line(way, k, lent, size):
+    """One call, with the bytes and the sum of its buffer."""
+    buffer = mark(65600)
+    run = {"image": chips.to_image, "chip": chips.to_chip}[way]
+    answer = run(k, vary(131072)[:lent], room(buffer, size))
+    some = " ".join("%02X" % buffer[i] for i in (1, 64, 300, 4097))
+    asked = "to %s k %d lent %d room %d" % (way, k, lent, size)
+    return asked + told(answer) + ", bytes %s, sum %d, kept from %d" % (some, total(buffer), kept_from(buffer))
+
+
+def banks_lines():
+    """Each k, one bank and two, both ways."""
+    yield bank_line("image", 6, 4096, 4096)
+    yield bank_line("image", 6, 8192, 65600)
+    yield bank_line("image", 7, 16384, 16384)
+    yield bank_line("image", 7, 32768, 40000)
+    yield bank_line("image", 8, 65536, 65536)
+    yield bank_line("chip", 6, 4096, 4097)
+    yield bank_line("chip", 6, 8192, 8192)
+    yield bank_line("chip", 7, 16384, 65600)
+    yield bank_line("chip", 7, 32768, 32768)
+    yield bank_line("chip", 8, 65536, 65600)
+
+
+def bank_refusals_lines():
+    """13 and 14 in their order."""
+    yield bank_line("image", 5, 1024, 65600)
+    yield bank_line("image", 9, 65536, 65600)
+    yield bank_line("image", 0, 0, 0)
+    yield bank_line("image", 18446744073709551615, 4096, 65600)
+    yield bank_line("image", 6, 4095, 65600)
+    yield bank_line("image", 6, 12288, 65600)
+    yield bank_line("image", 6, 16384, 65600)
+    yield bank_line("image", 7, 4096, 65600)
+    yield bank_line("image", 8, 131072, 65600)
+    yield bank_line("image", 8, 32768, 65600)
+    yield bank_line("image", 6, 4095, 0)
+    yield bank_line("image", 6, 4096, 4095)
+    yield bank_line("chip", 8, 131072, 65600)
+    yield bank_line("chip", 7, 49152, 65600)
+    yield bank_line("chip", 7, 32768, 32767)
+    yield bank_line("chip", 8, 65536, 65535)
+
+
+def twice_line():
+    """Two banks, brought to an image and back to the chips."""
+    given, image, again = vary(131072)[:8192], bytearray(8192), bytearray(8192)
+    chips.to_image(6, given, image)
+    chips.to_chip(6, image, again)
+    sums = (total(given), total(image), total(again))
+    return "8192 bytes sum %d, as an image %d, and back %d" % sums
+
+
+def try_chip():
+    """The chips of each k."""
+    yield from banks_lines()
+    yield from bank_refusals_lines()
+    yield twice_line()
+
+
+# == All programs: those that are given nothing print lines, and the tools answer their standard input.
+
+TRIALS = {
+    "try_control": try_control,
+    "try_fetch": try_fetch,
+    "try_draw": try_draw,
+    "try_show": try_show,
+    "try_back": try_back,
+    "try_sheet": try_sheet,
+    "try_report": try_report,
+    "try_chip": try_chip,
+}
+
+
+def report_tool(given, arguments):
+    """The report program."""
+    return report.text(given)
+
+
+def chips_tool(given, arguments):
+    """The chips program."""
+    return chips.program(arguments, given)
+
+
+EXAMPLE_SHEET = b"deed=K-104\npins=20\nwrites=3\nat=FFC1\nat=FFC9\nat=FFD6\n"
+
+
+def example_tool(given, arguments):
+    """The worked example: the frame of an image, as its sheet asks. A refusal prints nothing."""
+    found = sheet.read(EXAMPLE_SHEET)
+    control = word.play(word.RESET, found.writes)[2]
+    strip, frame = bytearray(6144), bytearray(49152)
+    answer = numbers.show(control, found.pins, given[:4096], b"", strip, frame)
+    return bytes(frame) if answer[0] == 0 else b""
+
+
+TOOLS = {"report": report_tool, "chips": chips_tool, "example": example_tool}
+
+
+def printed(trial):
+    """The whole output of a trial program."""
+    return "".join(line + "\n" for line in TRIALS[trial]()).encode("latin-1")
