@@ -1,9 +1,12 @@
-"""Figures to check by: document 01's own figures, held against these modules."""
+"""Figures to check by: document 01's own figures, and those of the standards that a picture file goes by, held against these modules."""
+
+import zlib
 
 import draw
 import fetch
 import numbers
 import pins
+import png
 import report
 import sheet
 import word
@@ -100,14 +103,55 @@ def reports():
     )
 
 
-CHAPTERS = (control_writes, fetched_addresses, dots, refusals, longest_sheet, reports)
+def checks():
+    """The check values of CRC-32 and Adler-32, and the last chunk, which is the same in every PNG file."""
+    yield "CRC-32 of 123456789", zlib.crc32(b"123456789"), 0xCBF43926
+    yield "Adler-32 of Wikipedia", zlib.adler32(b"Wikipedia"), 0x11E60398
+    yield "IEND", png.chunk(b"IEND", b""), bytes.fromhex("00000000 49454E44 AE426082")
+
+
+def chunks(file):
+    """The name of each chunk of a file with what it holds, by the lengths that the file says."""
+    place = 8
+    while place < len(file):
+        end = place + 8 + int.from_bytes(file[place:place + 4], "big")
+        yield file[place + 4:place + 8], file[place + 8:end]
+        place = end + 4
+
+
+def inflated(stream, rows):
+    """What zlib says of a stream: whether it holds the rows, or what is wrong with it."""
+    try:
+        return "the rows" if zlib.decompress(stream) == rows else "other bytes"
+    except zlib.error as fault:
+        return str(fault)
+
+
+def picture_files():
+    """A picture's length, its chunks, where its rows begin, what zlib finds in it, and its pixels read again."""
+    frame = bytes(k % 9 for k in range(49152))
+    file, rows = png.picture(4, frame), png.rows(4, frame)
+    held = dict(chunks(file))
+    yield "length", len(file), 38747
+    yield "chunks", [name for name, _ in chunks(file)], [b"IHDR", b"PLTE", b"IDAT", b"IEND"]
+    yield "IHDR", held[b"IHDR"], bytes.fromhex("00000140 000000F0 04 03 00 00 00")
+    yield "rows", file[87:87 + len(rows)] == rows, True
+    yield "zlib", inflated(held[b"IDAT"], rows), "the rows"
+    yield "pixels", png.pixels(file) == (4, frame), True
+
+
+CHAPTERS = {
+    "document 01": (control_writes, fetched_addresses, dots, refusals, longest_sheet, reports),
+    "the picture file": (checks, picture_files),
+}
 
 
 def wrong():
     """A line for each figure that these modules do not meet."""
     return [
-        "document 01, %s: expected %r, found %r" % (name, said, found)
-        for chapter in CHAPTERS
+        "%s, %s: expected %r, found %r" % (source, name, said, found)
+        for source in CHAPTERS
+        for chapter in CHAPTERS[source]
         for name, found, said in chapter()
         if found != said
     ]

@@ -7,11 +7,16 @@ import sheet
 import word
 
 
-def text(given):
-    """The report of a sheet's bytes. Its writes are played from reset."""
+def text(given, after=(0, 0)):
+    """The report of a sheet's bytes. Its writes are played from reset.
+
+    Where an operation on the record was refused, `after` is its number and place; the sheet's own refusal stands first.
+    """
     found = sheet.read(given)
     played = word.play(word.RESET, found.writes)
     number, place = judge(found, played)
+    if number == 0:
+        number, place = after
     if number == 11:
         lines = refusal(number, place)
     elif number != 0:

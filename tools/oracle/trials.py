@@ -4,6 +4,8 @@ import chips
 import fetch
 import numbers
 import pins
+import plan
+import png
 import report
 import sheet
 import word
@@ -19,6 +21,11 @@ def tell(length, per=1):
 def vary(length):
     """Varied bytes that tell their places: no two rows or columns of a bank are alike."""
     return bytes((i + i // 61) % 256 for i in range(length))
+
+
+def vary9(length):
+    """Varied colour numbers that tell their places."""
+    return bytes((i + i // 61) % 9 for i in range(length))
 
 
 def mark(length):
@@ -490,11 +497,26 @@ REPORTED = (
 )
 
 
+# Sheets with the number and place of an operation on their record.
+REPORTED_AFTER = (
+    (b"deed=K\npins=20\nwrites=0\na=b\n", 0, 0),
+    (b"deed=K\npins=20\nwrites=0\na=b\nc=\n", 5, 0),
+    (b"deed=K\npins=00\nwrites=0\n", 6, 0),
+    (b"deed=K\npins=20\nwrites=0\na=b\n", 9, 49152),
+    (b"deed=K\npins=20\nwrites=0\na=b\n", 11, 7),
+    (b"deed=K\npins=40\nwrites=0\na=b\n", 5, 0),
+    (b"deed=k\n", 5, 0),
+)
+
+
 def try_report():
-    """Each sheet with its report, line by line."""
+    """Each sheet with its report, line by line; then those after an operation."""
     for given in REPORTED:
         yield "report of " + quoted(given)
         yield from report.text(given).decode("latin-1").split("\n")[:-1]
+    for given, number, place in REPORTED_AFTER:
+        yield "report after" + number_and_place((number, place)) + " of " + quoted(given)
+        yield from report.text(given, (number, place)).decode("latin-1").split("\n")[:-1]
 
 
 # == try_chip
@@ -560,6 +582,87 @@ def try_chip():
     yield twice_line()
 
 
+# == try_picture
+
+
+def stained(colour, place):
+    """A frame of varied pixels but for one of this colour at a place."""
+    frame = bytearray(vary9(49152))
+    frame[place] = colour
+    return bytes(frame)
+
+
+def encode_line(border, frame, size):
+    """Makes a picture in a marked buffer. The sum is that of the whole file."""
+    buffer = mark(size)
+    answer = png.encode(border, frame, buffer)
+    line = "encode border %d pixels %d room %d" % (border, len(frame), size)
+    line += told(answer) + ", kept from %d" % kept_from(buffer)
+    return line + ", sum %d" % total(buffer[:38747]) if answer[0] == 0 else line
+
+
+def encodes_lines():
+    """Pictures of varied frames and of one colour, in rooms as long as may be and longer."""
+    for border in (0, 4, 8):
+        yield encode_line(border, vary9(49152), 38747)
+    yield encode_line(7, vary9(49152), 38750)
+    yield encode_line(0, bytes([0]) * 49152, 38747)
+    yield encode_line(8, bytes([8]) * 49152, 38747)
+    yield encode_line(4, vary9(49152) + bytes([255]) * 3, 38747)
+
+
+def encode_refusals_lines():
+    """8, 9 and 14 in their order."""
+    yield encode_line(4, vary9(49151), 38747)
+    yield encode_line(9, vary9(49151), 0)
+    yield encode_line(4, stained(9, 0), 38747)
+    yield encode_line(4, stained(255, 49151), 38747)
+    yield encode_line(9, vary9(49152), 38747)
+    yield encode_line(255, stained(9, 49151), 38747)
+    yield encode_line(4, vary9(49152), 38746)
+    yield encode_line(9, vary9(49152), 38746)
+
+
+def decode_line(name, given, size=49152):
+    """Reads a picture into a marked buffer, whose length is told where it is not a frame's. The sum is that of the frame."""
+    buffer = mark(size)
+    answer = png.decode(given, buffer)
+    line = "decode %s" % name + (", room %d" % size if size != 49152 else "")
+    line += told(answer) + ", kept from %d" % kept_from(buffer)
+    return line + ", sum %d" % total(buffer[:49152]) if answer[0] == 0 else line
+
+
+def with_byte(given, place, byte):
+    """Bytes with another one at a place."""
+    return given[:place] + bytes([byte]) + given[place + 1:]
+
+
+def changed(given, place):
+    """Bytes with the lowest bit of one of them turned over."""
+    return with_byte(given, place, given[place] ^ 1)
+
+
+def decodes_lines(given):
+    """A picture, a longer one, each part of it changed by a bit, and cut short."""
+    yield decode_line("a picture", given)
+    yield decode_line("a picture", given, 49155)
+    yield decode_line("a picture and a byte more", given + b"\0")
+    for place in (0, 20, 45, 83, 87, 88, 3968, 38727, 38731, 38746):
+        yield decode_line("byte %d changed" % place, changed(given, place))
+    yield decode_line("byte 3968 set to 144", with_byte(given, 3968, 144))
+    for length in (0, 50, 88, 89, 20000, 38746):
+        yield decode_line("a picture cut to %d bytes" % length, given[:length])
+    yield decode_line("a picture", given, 49151)
+    yield decode_line("byte 38731 changed", changed(given, 38731), 49151)
+
+
+def try_picture():
+    """Pictures made, and read again: refusals, and what is no picture."""
+    yield from encodes_lines()
+    yield from encode_refusals_lines()
+    yield from decodes_lines(png.picture(4, vary9(49152)))
+
+
 # == All programs: those that are given nothing print lines, and the tools answer their standard input.
 
 TRIALS = {
@@ -571,6 +674,7 @@ TRIALS = {
     "try_sheet": try_sheet,
     "try_report": try_report,
     "try_chip": try_chip,
+    "try_picture": try_picture,
 }
 
 
@@ -587,16 +691,65 @@ def chips_tool(given, arguments):
 EXAMPLE_SHEET = b"deed=K-104\npins=20\nwrites=3\nat=FFC1\nat=FFC9\nat=FFD6\n"
 
 
+def record(given, image):
+    """What both at once tell of an image by its sheet, which is in graphics, and the frame."""
+    found = sheet.read(given)
+    control = word.play(word.RESET, found.writes)[2]
+    frame = bytearray(49152)
+    return numbers.show(control, found.pins, image, b"", bytearray(6144), frame), bytes(frame)
+
+
 def example_tool(given, arguments):
     """The worked example: the frame of an image, as its sheet asks. A refusal prints nothing."""
-    found = sheet.read(EXAMPLE_SHEET)
-    control = word.play(word.RESET, found.writes)[2]
-    strip, frame = bytearray(6144), bytearray(49152)
-    answer = numbers.show(control, found.pins, given[:4096], b"", strip, frame)
-    return bytes(frame) if answer[0] == 0 else b""
+    answer, frame = record(EXAMPLE_SHEET, given[:4096])
+    return frame if answer[0] == 0 else b""
 
 
-TOOLS = {"report": report_tool, "chips": chips_tool, "example": example_tool}
+def copy_tool(given, arguments):
+    """The clerk's copy of the example record: its report, once the copy is whole."""
+    answer, _ = record(plan.SHEET, plan.image())
+    return report.text(plan.SHEET, answer[:2])
+
+
+def restore_tool(given, arguments):
+    """The strip out of the copy of the example record: what is answered, in the report's manner."""
+    frame = bytearray(49152)
+    answer = png.decode(plan_copy(), frame)
+    if answer[0] == 0:
+        answer = numbers.read_back(int(arguments[0], 16), frame, bytearray(6144))
+    lines = [b"status=%d\n" % answer[0], b"place=%d\n" % answer[1]]
+    return b"".join(lines if answer[0] else lines[:1])
+
+
+TOOLS = {
+    "report": report_tool,
+    "chips": chips_tool,
+    "example": example_tool,
+    "copy": copy_tool,
+    "restore": restore_tool,
+}
+
+
+# == Other files: the example record, and its copy.
+
+
+def plan_sheet():
+    """The sheet of the example record."""
+    return plan.SHEET
+
+
+def plan_copy():
+    """The copy of the example record: the picture of its frame, with the border that is told."""
+    answer, frame = record(plan.SHEET, plan.image())
+    return png.picture(answer[2], frame)
+
+
+FILES = {
+    "crates/copy/data/plan.sheet": plan_sheet,
+    "crates/copy/data/plan.image": plan.image,
+    "crates/restore/data/plan.png": plan_copy,
+    "docs/copy.png": plan_copy,
+}
 
 
 def printed(trial):

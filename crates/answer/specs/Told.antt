@@ -1,4 +1,4 @@
--- The numbers a clerk sees: what document 01's table, and document 02 after it, tells of each answer, a line for each case.
+-- The numbers a clerk sees: what document 01's table, and document 02 after it, tells of each answer, a line for each case; 28 is the house's.
 use Prim.Native.Nat.{ℕ}
 use Rattle.promises.specs.Told.{Told, told, done, refused}
 use Rattle.answer.specs.declared.Unfit.{Unfit}
@@ -6,7 +6,7 @@ use Rattle.answer.specs.declared.Unfit.the-variants.{PinsAbove, External
 use Rattle.answer.specs.declared.Later.{Later}
 use Rattle.answer.specs.declared.Later.the-variants.{OtherChip, ShortDestination}
 use Rattle.answer.specs.declared.Spot.{Spot}
-use Rattle.answer.specs.declared.Spot.the-variants.{Stray, BrokenSheet}
+use Rattle.answer.specs.declared.Spot.the-variants.{Stray, BrokenSheet, NoPicture}
 use Rattle.answer.specs.declared.Answer.{Answer}
 use Rattle.answer.specs.declared.Answer.the-variants.{Done, Unfit as ByUnfit, Later as ByLater, At, Elsewhere}
 
@@ -30,6 +30,7 @@ laterNumber ShortDestination = 14
 abbrev pub spotNumber : Spot → ℕ
 spotNumber Stray = 9
 spotNumber BrokenSheet = 11
+spotNumber NoPicture = 28
 
 abbrev pub toldOf : Answer → Told
 toldOf (Done v) = done v

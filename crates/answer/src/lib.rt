@@ -27,6 +27,8 @@ pub enum Spot {
     Stray,
     // The length of the sheet's longest beginning that some accepted sheet has.
     BrokenSheet,
+    // The index of the first byte that differs from the picture that a file's pixels make.
+    NoPicture,
 }
 
 // Done with its value, or refused: each case holds what document 01 has told of it.
@@ -70,6 +72,7 @@ fn spot_number(s: Spot) -> u8
     match s {
         Spot::Stray => 9,
         Spot::BrokenSheet => 11,
+        Spot::NoPicture => 28,
     }
 }
 

@@ -13,10 +13,12 @@ use Rattle.frame.proofs.Unique.{draw-op}
 use Rattle.screen.proofs.Unique.{show-op}
 use Rattle.back.proofs.Unique.{read-back-op}
 use Rattle.transpose.proofs.Unique.{to-image-op, to-chip-op}
+use Rattle.picture.proofs.Unique.{encode-op}
+use Rattle.picture_back.proofs.Unique.{decode-op}
 use Rattle.intake.specs.declared.Intake.{Intake}
 use Rattle.intake.proofs.Unique.{settings-of-op}
 use Rattle.report_text.specs.declared.Text.{Text}
-use Rattle.report_text.proofs.Unique.{report-op}
+use Rattle.report_text.proofs.Unique.{report-op, report-after-op}
 
 -- a lent buffer
 abbrev pub Lent : Type 0
@@ -51,6 +53,14 @@ ToImage κs k chip image z out = Allows to-image-op κs (k, (chip, (image, tt)))
 abbrev pub ToChip : Lfts 2 → ℕ → Lent → Lent → Answer → List ℕ → Type 0
 ToChip κs k image chip z out = Allows to-chip-op κs (k, (image, (chip, tt))) z (tt, (tt, (out, tt)))
 
+-- `encode` may answer z and leave `out` in the file
+abbrev pub Encodes : Lfts 2 → ℕ → Lent → Lent → Answer → List ℕ → Type 0
+Encodes κs border frame png z out = Allows encode-op κs (border, (frame, (png, tt))) z (tt, (tt, (out, tt)))
+
+-- `decode` may answer z and leave `out` in the frame
+abbrev pub Decodes : Lfts 2 → Lent → Lent → Answer → List ℕ → Type 0
+Decodes κs png frame z out = Allows decode-op κs (png, (frame, tt)) z (tt, (out, tt))
+
 -- `settings_of` may give r
 abbrev pub TakesIn : Lfts 1 → Lent → Intake → Type 0
 TakesIn κs sheet r = Allows settings-of-op κs (sheet, tt) r (tt, tt)
@@ -58,5 +68,9 @@ TakesIn κs sheet r = Allows settings-of-op κs (sheet, tt) r (tt, tt)
 -- `report` may give the text r
 abbrev pub Reports : Lfts 1 → Lent → Text → Type 0
 Reports κs sheet r = Allows report-op κs (sheet, tt) r (tt, tt)
+
+-- `report_after` with this answer may give the text r
+abbrev pub ReportsAfter : Lfts 1 → Lent → Answer → Text → Type 0
+ReportsAfter κs sheet a r = Allows report-after-op κs (sheet, (a, tt)) r (tt, (tt, tt))
 
 -- the calls of `sheet` stand in crates/sheet/proofs/Annotations.antt: Reads, Deed, Line, Tail

@@ -10,9 +10,9 @@ use contract.Lifetimes.{Lfts}
 use denote.Ref.{now}
 use lib.Dec.{T, eqb}
 use lib.ListN.{length, getD}
-use borrow.Author.Tests.{eqb-true, eqb-false}
+use borrow.Author.Tests.{eqb-true, eqb-false, eq-eqb, ne-eqb}
 use Rattle.promises.specs.Told.{Told, done}
-use Rattle.promises.specs.Order.{Check, firstOf, HoldsFirst, NoneHolds, areRefusals}
+use Rattle.promises.specs.Order.{Check, after, firstOf, HoldsFirst, NoneHolds, areRefusals}
 use Rattle.promises.specs.Written.{written}
 use Rattle.promises.proofs.Orders.{given-when, done-when}
 use Rattle.promises.proofs.Fills.{written-fills}
@@ -35,6 +35,11 @@ use Rattle.back.specs.Back.{backPixels, backOrder, backTold}
 use Rattle.back.proofs.Backs.{back-accepted, strip-done as back-done, strip-kept}
 use Rattle.transpose.specs.Chip.{chipOrder, chipTold, chipAfter, transposedByte}
 use Rattle.transpose.proofs.Answers.{accepted as chip-accepted, room-done, room-refused}
+use Rattle.png.specs.File.{file}
+use Rattle.picture.specs.Encode.{fileLength, pixels, encodeOrder, encodeTold}
+use Rattle.picture.proofs.Answers.{accepted as encode-accepted, made-done, made-refused}
+use Rattle.picture_back.specs.Decode.{borderRead, pixelRead, decodeOrder, decodeTold}
+use Rattle.picture_back.proofs.Decodes.{accepted as decode-accepted, read-done, read-refused}
 use Rattle.intake.specs.declared.Intake.{Intake}
 use Rattle.intake.specs.Intake.{intakeOrder, intakeTold, noSettings}
 use Rattle.intake.proofs.Judges.{given-refused}
@@ -45,9 +50,9 @@ use Rattle.sheet.specs.declared.Sheet.{Sheet}
 use Rattle.sheet.proofs.Annotations.{Reads, Deed, Line, Tail, deed-holds, line-holds, tail-holds}
 use Rattle.report_text.specs.declared.Text.{Text}
 use Rattle.report_text.specs.Words.{held}
-use Rattle.report_text.specs.Report.{statusLine}
+use Rattle.report_text.specs.Report.{statusLine, toldAfter}
 use Rattle.report_text.proofs.Fits.{holds-report, begins-with-status}
-use Rattle.claims.proofs.Calls.{Lent, Plays, Fetches, Draws, Shows, ReadsBack, ToImage, ToChip, TakesIn, Reports}
+use Rattle.claims.proofs.Calls.{Lent, Plays, Fetches, Draws, Shows, ReadsBack, ToImage, ToChip, Encodes, Decodes, TakesIn, Reports, ReportsAfter}
 
 -- what is told is what the order says: each number exactly when its condition holds and none earlier does, done exactly when none does
 pub record Ordered (told : Told) (order : List Check) (value : ℕ) : Type 0 where
@@ -156,6 +161,28 @@ pub to-chip-demand : (κs : Lfts 2) (k : ℕ) (image chip : Lent) (z : Answer) (
     → Ordered (toldOf z) (chipOrder k (length (now image)) (length (now chip))) 0 × Guarded (toldOf z) (length (now image)) (now chip) out
 to-chip-demand κs k image chip z out p = chip-demand k image chip z out p
 
+-- the picture file: 8, 9, 14
+pub encode-demand : (κs : Lfts 2) (border : ℕ) (frame png : Lent) (z : Answer) (out : List ℕ) → Encodes κs border frame png z out
+    → Ordered (toldOf z) (encodeOrder border (now frame) (now png)) fileLength × Guarded (toldOf z) fileLength (now png) out
+unfolding encodeTold
+encode-demand κs border frame png z out p = (
+  ordered (encodeOrder border (now frame) (now png)) fileLength tt (p .0),
+  guarded (file border (pixels (now frame)) .at) fileLength (now png)
+      (λ e. let d = rw (p .0) at e in (encode-accepted border (now frame) (now png) d .file-long, p .1 ∙ made-done border (now frame) (now png) d))
+      (λ no. p .1 ∙ made-refused border (now frame) (now png) (λ e. no (rw (p .0) e))),
+)
+
+-- and the frame out of it: 28, 8
+pub decode-demand : (κs : Lfts 2) (png frame : Lent) (z : Answer) (out : List ℕ) → Decodes κs png frame z out
+    → Ordered (toldOf z) (decodeOrder (now png) (now frame)) (borderRead (now png)) × Guarded (toldOf z) frameLength (now frame) out
+unfolding decodeTold
+decode-demand κs png frame z out p = (
+  ordered (decodeOrder (now png) (now frame)) (borderRead (now png)) tt (p .0),
+  guarded (pixelRead (now png)) frameLength (now frame)
+      (λ e. let d = rw (p .0) at e in (decode-accepted (now png) (now frame) d .1, p .1 ∙ read-done (now png) (now frame) d))
+      (λ no. p .1 ∙ read-refused (now png) (now frame) (λ e. no (rw (p .0) e))),
+)
+
 -- the settings of a sheet: 11, 10, 1, 2, 4; a refusal gives none. `settings_of` is lent no buffer to write to
 pub settings-demand : (κs : Lfts 1) (sheet : Lent) (z : Intake) → TakesIn κs sheet z
     → Ordered (toldOf (z .answer)) (intakeOrder (now sheet)) 0 × ((toldOf (z .answer) .number ≡ 0 → ⊥) → z .settings ≡ noSettings)
@@ -197,5 +224,15 @@ pub report-demand : (κs : Lfts 1) (sheet : Lent) (r : Text) → Reports κs she
     → ((rest : List ℕ) × (held r ≡ statusLine (intakeTold (now sheet)) ++ rest)) × Ordered (intakeTold (now sheet)) (intakeOrder (now sheet)) 0
 unfolding intakeTold
 report-demand κs sheet r p =
-    let b = begins-with-status (now sheet) in
-    ((b .0, holds-report (now sheet) r p ∙ b .1), ordered (intakeOrder (now sheet)) 0 tt refl)
+    let b = begins-with-status (intakeTold (now sheet)) (now sheet) in
+    ((b .0, holds-report (intakeTold (now sheet)) (now sheet) r p ∙ b .1), ordered (intakeOrder (now sheet)) 0 tt refl)
+
+-- after an operation on the record its first line is the status of whoever refused first: the sheet's own order, then the operation
+pub report-after-demand : (κs : Lfts 1) (sheet : Lent) (a : Answer) (r : Text) → ReportsAfter κs sheet a r
+    → ((rest : List ℕ) × (held r ≡ statusLine (toldAfter (now sheet) (toldOf a)) ++ rest))
+    × ((intakeTold (now sheet) .number ≡ 0 → ⊥) → toldAfter (now sheet) (toldOf a) ≡ intakeTold (now sheet))
+    × (intakeTold (now sheet) .number ≡ 0 → toldAfter (now sheet) (toldOf a) ≡ toldOf a)
+unfolding after
+report-after-demand κs sheet a r p =
+    let b = begins-with-status (toldAfter (now sheet) (toldOf a)) (now sheet) in
+    ((b .0, holds-report (toldAfter (now sheet) (toldOf a)) (now sheet) r p ∙ b .1), λ no. simp (ne-eqb _ _ no), λ e. simp (eq-eqb _ _ e))

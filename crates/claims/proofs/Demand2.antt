@@ -55,9 +55,9 @@ use Rattle.intake.specs.declared.Intake.{Intake}
 use Rattle.intake.proofs.Judges.{given-done}
 use Rattle.report_text.specs.declared.Text.{Text}
 use Rattle.report_text.specs.Words.{held}
-use Rattle.report_text.specs.Report.{reportOf}
+use Rattle.report_text.specs.Report.{reportOf, toldAfter, reportAfter}
 use Rattle.report_text.proofs.Fits.{holds-report, ends-with-lines}
-use Rattle.claims.proofs.Calls.{Lent, Plays, Fetches, Draws, Shows, ReadsBack, TakesIn, Reports}
+use Rattle.claims.proofs.Calls.{Lent, Plays, Fetches, Draws, Shows, ReadsBack, TakesIn, Reports, ReportsAfter}
 
 -- the answer is done
 abbrev pub Done : Answer → Type 0
@@ -243,9 +243,19 @@ sheet-settings κs s z p d = p .settings ∙ given-done (now s) (ap (λ (t : Tol
 
 -- What the report prints is the report, and but for a broken sheet it ends with the annotation lines as they stand in the sheet.
 pub printed : (κs : Lfts 1) (s : Lent) (r : Text) → Reports κs s r → held r ≡ reportOf (now s)
-printed κs s r p = holds-report (now s) r p
+printed κs s r p = holds-report (intakeTold (now s)) (now s) r p
 
 pub printed-ends : (κs κt : Lfts 1) (s t : Lent) (r : Text) → Reports κs s r → Tail κt s t → (intakeTold (now s) .number ≡ 11 → ⊥) → (before : List ℕ) × (held r ≡ before ++ now t)
 printed-ends κs κt s t r p w h =
-    let e = ends-with-lines (now s) h in
+    let e = ends-with-lines (intakeTold (now s)) (now s) h in
     (e .0, printed κs s r p ∙ e .1 ∙ ap (λ (x : List ℕ). e .0 ++ x) (sym (tail-holds s κt t w)))
+
+-- After an operation on the record the same holds of what is then told.
+pub printed-after : (κs : Lfts 1) (s : Lent) (a : Answer) (r : Text) → ReportsAfter κs s a r → held r ≡ reportAfter (now s) (toldOf a)
+printed-after κs s a r p = holds-report (toldAfter (now s) (toldOf a)) (now s) r p
+
+pub printed-after-ends : (κs κt : Lfts 1) (s t : Lent) (a : Answer) (r : Text) → ReportsAfter κs s a r → Tail κt s t → (toldAfter (now s) (toldOf a) .number ≡ 11 → ⊥)
+    → (before : List ℕ) × (held r ≡ before ++ now t)
+printed-after-ends κs κt s t a r p w h =
+    let e = ends-with-lines (toldAfter (now s) (toldOf a)) (now s) h in
+    (e .0, printed-after κs s a r p ∙ e .1 ∙ ap (λ (x : List ℕ). e .0 ++ x) (sym (tail-holds s κt t w)))

@@ -8,5 +8,6 @@ pub mod Demand3
 pub mod Alikes
 pub mod Felt
 pub mod Chips
+pub mod Copy
 pub mod Ascents
 pub mod Unfit

@@ -12,6 +12,9 @@ use Rattle.frame.proofs.Unique as frame
 use Rattle.screen.proofs.Unique as screen
 use Rattle.back.proofs.Unique as back
 use Rattle.transpose.proofs.Unique as transpose
+use Rattle.checksum.proofs.Unique as checksum
+use Rattle.picture.proofs.Unique as picture
+use Rattle.picture_back.proofs.Unique as picture-back
 use Rattle.scan.proofs.Unique as scan
 use Rattle.sheet.proofs.Unique as sheet
 use Rattle.intake.proofs.Unique as intake
@@ -55,6 +58,10 @@ operations =
     ∷ fixed back.read-back-fixes
     ∷ fixed transpose.to-image-fixes
     ∷ fixed transpose.to-chip-fixes
+    ∷ fixed checksum.crc-fixes
+    ∷ fixed checksum.adler-fixes
+    ∷ fixed picture.encode-fixes
+    ∷ fixed picture-back.decode-fixes
     ∷ fixed scan.survey-fixes
     ∷ fixed scan.annotation-fixes
     ∷ fixed sheet.read-fixes
@@ -63,6 +70,7 @@ operations =
     ∷ fixed sheet.tail-fixes
     ∷ fixed intake.settings-of-fixes
     ∷ fixed report-text.report-fixes
+    ∷ fixed report-text.report-after-fixes
     ∷ fixed trial.look-of-fixes
     ∷ fixed trial.settings-of-fixes
     ∷ fixed trial.least-fixes
@@ -117,6 +125,10 @@ pub named : map (λ o. o .operation .key) operations
     ∷ "back::read_back"
     ∷ "transpose::to_image"
     ∷ "transpose::to_chip"
+    ∷ "checksum::crc"
+    ∷ "checksum::adler"
+    ∷ "picture::encode"
+    ∷ "picture_back::decode"
     ∷ "scan::survey"
     ∷ "scan::annotation"
     ∷ "sheet::read"
@@ -125,6 +137,7 @@ pub named : map (λ o. o .operation .key) operations
     ∷ "sheet::tail"
     ∷ "intake::settings_of"
     ∷ "report_text::report"
+    ∷ "report_text::report_after"
     ∷ "trial::look_of"
     ∷ "trial::settings_of"
     ∷ "trial::least"

@@ -1,5 +1,5 @@
 -- "Versions we would send back" (document 01): five tools that are unfit, each ruled out by the contracts, for every operation that it concerns.
-use Prim.Native.Nat.{ℕ, _+_, _-_, _*_, _/_, _%_, _<_, _≤_}
+use Prim.Native.Nat.{ℕ, _+_, _-_, _*_, _/_, _%_, _<_}
 use mathlib.Core.Path.{_≡_, refl, sym, ap, _∙_}
 use mathlib.Core.Bool.{true, false}
 use mathlib.Core.List.{List, [], _∷_, _++_}
@@ -7,12 +7,13 @@ use mathlib.Core.Logic.{_↔_}
 use native.Mathlib.Omega.{arith}
 use contract.Lifetimes.{Lfts}
 use denote.Ref.{now}
-use lib.ListN.{length, getD, set, replicate, length-set, length-replicate, getD-replicate}
+use lib.ListN.{length, getD, take, set, replicate, length-set, length-replicate, getD-replicate}
 use lib.Seq.{getD-set-same, getD-set-other}
 use borrow.Author.Tests.{le-ltb}
-use Rattle.promises.specs.Told.{Told}
+use Rattle.promises.specs.Told.{Told, done}
 use Rattle.promises.specs.Order.{NoneHolds}
 use Rattle.promises.specs.Written.{Bytes}
+use Rattle.promises.proofs.Orders.{done-when}
 use Rattle.promises.proofs.Firsts.{first-none}
 use Rattle.answer.specs.declared.Answer.{Answer}
 use Rattle.settings.specs.declared.Look.{Look}
@@ -36,14 +37,20 @@ use Rattle.back.specs.Back.{backPixels, backOrder}
 use Rattle.back.proofs.Backs.{back-accepted, strip-done as back-done}
 use Rattle.back.proofs.RoundTrip.{written-reads}
 use Rattle.transpose.specs.Chip.{chipOrder, chipPlace}
+use Rattle.png.specs.File.{file}
+use Rattle.picture.specs.Encode.{fileLength, pixels, encodeOrder, encodeTold, pictureMade}
+use Rattle.picture.proofs.Answers.{accepts}
+use Rattle.picture_back.specs.Decode.{borderRead, pixelRead, decodeOrder, decodeTold}
+use Rattle.picture_back.proofs.RoundTrip.{told-back}
 use Rattle.grammar.specs.Given.{sheetOrder}
 use Rattle.grammar.proofs.Length.{one-as-long}
 use Rattle.sheet.specs.declared.Sheet.{Sheet}
 use Rattle.sheet.proofs.Annotations.{Reads, Line}
-use Rattle.claims.proofs.Calls.{Lent, Plays, Fetches, Draws, Shows, ReadsBack, ToImage, ToChip}
-use Rattle.claims.proofs.Demand1.{play-demand, fetch-demand, draw-demand, show-demand, back-demand, read-demand, to-image-demand, to-chip-demand}
+use Rattle.claims.proofs.Calls.{Lent, Plays, Fetches, Draws, Shows, ReadsBack, ToImage, ToChip, Encodes, Decodes}
+use Rattle.claims.proofs.Demand1.{play-demand, fetch-demand, draw-demand, show-demand, back-demand, read-demand, to-image-demand, to-chip-demand, encode-demand, decode-demand}
 use Rattle.claims.proofs.Demand2.{Done, value, one-more-write, strip-bytes, frame-pixels, shown-byte, shown-pixel, counted-lines}
 use Rattle.claims.proofs.Chips.{image-byte, chip-byte}
+use Rattle.claims.proofs.Copy.{picture-byte, pixel-left}
 use Rattle.claims.proofs.Ascents.{rg6, goes-up}
 
 -- ==== A tool that refuses everything. A call is done exactly if no condition of its order holds,
@@ -72,7 +79,13 @@ image-accepts κs k chip image z out p = to-image-demand κs k chip image z out 
 pub chip-accepts : (κs : Lfts 2) (k : ℕ) (image chip : Lent) (z : Answer) (out : List ℕ) → ToChip κs k image chip z out → (Done z) ↔ NoneHolds (chipOrder k (length (now image)) (length (now chip)))
 chip-accepts κs k image chip z out p = to-chip-demand κs k image chip z out p .0 .done-if
 
--- and for each of them there is such a call: what is lent is n times 0, and the sheet is the longest one.
+pub encode-accepts : (κs : Lfts 2) (border : ℕ) (frame png : Lent) (z : Answer) (out : List ℕ) → Encodes κs border frame png z out → (Done z) ↔ NoneHolds (encodeOrder border (now frame) (now png))
+encode-accepts κs border frame png z out p = encode-demand κs border frame png z out p .0 .done-if
+
+pub decode-accepts : (κs : Lfts 2) (png frame : Lent) (z : Answer) (out : List ℕ) → Decodes κs png frame z out → (Done z) ↔ NoneHolds (decodeOrder (now png) (now frame))
+decode-accepts κs png frame z out p = decode-demand κs png frame z out p .0 .done-if
+
+-- and for each of them there is such a call: what is lent is n times 0, the sheet is the longest one, and the file is the picture of such a frame.
 abbrev zeros : ℕ → List ℕ
 zeros n = replicate n 0
 
@@ -114,6 +127,27 @@ some-sheet = (one-as-long .0, (rw (one-as-long .1) refl, tt))
 pub some-transposed : NoneHolds (chipOrder 6 4096 4096) × NoneHolds (chipOrder 7 32768 32768) × NoneHolds (chipOrder 8 65536 65536)
 some-transposed = ((refl, (refl, tt)), (refl, (refl, tt)), (refl, (refl, tt)))
 
+-- a frame of 0 with border 0 makes a picture,
+encoded : encodeTold 0 (zeros frameLength) (zeros fileLength) ≡ done fileLength
+encoded = accepts 0 (zeros frameLength) (zeros fileLength) (record {
+  frame-long = omega (arith, length-replicate {A = ℕ} frameLength 0);
+  colours = λ k h. omega (arith, getD-replicate {A = ℕ} frameLength k 0 0 h);
+  border-low = omega arith;
+  file-long = omega (arith, length-replicate {A = ℕ} fileLength 0);
+})
+
+pub some-encoded : NoneHolds (encodeOrder 0 (zeros frameLength) (zeros fileLength))
+unfolding encodeTold
+some-encoded = done-when (done fileLength) refl (encodeOrder 0 (zeros frameLength) (zeros fileLength)) tt .0 (ap (λ (t : Told). t .number) encoded)
+
+-- and its file is read.
+pub some-decoded : (s : List ℕ) × NoneHolds (decodeOrder s (zeros frameLength))
+unfolding decodeTold
+some-decoded =
+    let s = take fileLength (pictureMade 0 (zeros frameLength) (zeros fileLength)) in
+    let e = told-back 0 (zeros frameLength) (zeros fileLength) (ap (λ (t : Told). t .number) encoded) (zeros frameLength) (omega (arith, length-replicate {A = ℕ} frameLength 0)) in
+    (s, done-when (done (borderRead s)) refl (decodeOrder s (zeros frameLength)) tt .0 (ap (λ (t : Told). t .number) e))
+
 -- ==== A tool that draws one frame for all. In graphics, strips that differ in a byte give frames that differ,
 pub not-one-frame : (κs κs′ : Lfts 3) (l : Look) (font strip strip′ frame frame′ : Lent) (z z′ : Answer) (out out′ : List ℕ)
     → Draws κs l font strip frame z out → Draws κs′ l font strip′ frame′ z′ out′ → Done z → Done z′ → graphics l ≡ true → Bytes (now strip) → Bytes (now strip′)
@@ -153,7 +187,7 @@ not-one-text-screen κs κs′ word image image′ font strip strip′ frame fra
     let x : _≡_ {A = ℕ} 8 0 = sym a ∙ ap (λ (l : List ℕ). getD l 0 0) same ∙ b in
     omega arith
 
--- ==== A tool that stores nothing. A done call leaves another buffer wherever what was there is not what is fetched, drawn, read or crossed.
+-- ==== A tool that stores nothing. A done call leaves another buffer wherever what was there is not what is fetched, drawn, read, crossed or pictured.
 idle : {out old : List ℕ} (k : ℕ) {v : ℕ} → getD out k 0 ≡ v → (v ≡ getD old k 0 → ⊥) → out ≡ old → ⊥
 idle k e differ same = differ (sym e ∙ ap (λ (x : List ℕ). getD x k 0) same)
 
@@ -187,6 +221,15 @@ not-idle-image κs k chip image z out p d a h = idle a (image-byte κs k chip im
 pub not-idle-chip : (κs : Lfts 2) (k : ℕ) (image chip : Lent) (z : Answer) (out : List ℕ) → ToChip κs k image chip z out → Done z
     → (a : ℕ) → a < length (now image) → (getD (now image) a 0 ≡ getD (now chip) (chipPlace k a) 0 → ⊥) → out ≡ now chip → ⊥
 not-idle-chip κs k image chip z out p d a h = idle (chipPlace k a) (chip-byte κs k image chip z out p d a h)
+
+-- the picture file, and the frame out of it
+pub not-idle-picture : (κs : Lfts 2) (border : ℕ) (frame png : Lent) (z : Answer) (out : List ℕ) → Encodes κs border frame png z out → Done z
+    → (k : ℕ) → k < fileLength → (file border (pixels (now frame)) .at k ≡ getD (now png) k 0 → ⊥) → out ≡ now png → ⊥
+not-idle-picture κs border frame png z out p d k h = idle k (picture-byte κs border frame png z out p d k h)
+
+pub not-idle-decoded : (κs : Lfts 2) (png frame : Lent) (z : Answer) (out : List ℕ) → Decodes κs png frame z out → Done z
+    → (k : ℕ) → k < frameLength → (pixelRead (now png) k ≡ getD (now frame) k 0 → ⊥) → out ≡ now frame → ⊥
+not-idle-decoded κs png frame z out p d k h = idle k (pixel-left κs png frame z out p d k h)
 
 -- ==== A tool that obeys the first control write and idles through the others. For any list and any further write a, the word that is told is
 -- the word after the list with a's bit set or cleared by a (`one-more-write`), so it is another word wherever that bit was not so before.

@@ -28,3 +28,8 @@ both-pass false b h = (h, cc)
 pub and-false : (a : Bool) → a && false ≡ false
 and-false true = refl
 and-false false = refl
+
+-- neither of two tests passes
+pub neither : (a b : Bool) → a || b ≡ false → (a ≡ false) × (b ≡ false)
+neither true b h = (h, cc)
+neither false b h = (refl, h)

@@ -14,7 +14,7 @@ use Rattle.grammar.specs.Given.{isGot}
 use Rattle.grammar.proofs.Grammar.{refused-at, read-back}
 use Rattle.grammar.proofs.Length.{none-longer}
 use Rattle.intake.specs.Intake.{intakeTold, settingsIn}
-use Rattle.report_text.specs.Report.{reportOf}
+use Rattle.report_text.specs.Report.{reportOf, textFor}
 
 -- the longest sheet has 28,152 bytes
 abbrev pub enough : ℕ
@@ -57,5 +57,5 @@ read-enough s =
 
 -- so its report is theirs
 pub report-enough : (s : List ℕ) → reportOf (take enough s) ≡ reportOf s
-unfolding reportOf intakeTold settingsIn
+unfolding textFor intakeTold settingsIn
 report-enough s = rw (read-enough s)

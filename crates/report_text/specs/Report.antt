@@ -1,10 +1,12 @@
 -- The report of a sheet (document 01, "The report"): its whole text.
 use Prim.Native.Nat.{ℕ}
+use mathlib.Core.Bool.{true}
 use mathlib.Core.List.{List, _++_}
 use lib.Dec.{eqb}
 use lib.ListN.{length}
 use Rattle.promises.specs.Choose.{choose}
 use Rattle.promises.specs.Told.{Told}
+use Rattle.promises.specs.Order.{check, after}
 use Rattle.settings.specs.declared.Settings.{Settings}
 use Rattle.settings.specs.Modes.{modeName}
 use Rattle.counter.specs.Counter.{addressOf}
@@ -39,9 +41,20 @@ viewLines s = lineOf modeWord (modeName (s .look)) ++ lineOf startWord (hex 4 (a
 abbrev pub settingLines : Settings → List ℕ
 settingLines s = givenLines s ++ viewLines s
 
--- the whole report: a success, a broken sheet, or another refusal
-unfoldable pub reportOf : List ℕ → List ℕ
-reportOf s =
-    choose (eqb (intakeTold s .number) 0) (statusLine (intakeTold s) ++ (deedPrinted s ++ (settingLines (settingsIn s) ++ annotated s)))
-    (choose (eqb (intakeTold s .number) 11) (statusLine (intakeTold s) ++ placeLine (intakeTold s))
-    (statusLine (intakeTold s) ++ (placeLine (intakeTold s) ++ (deedPrinted s ++ annotated s))))
+-- the whole text where t is told of a sheet: a success, a broken sheet, or another refusal
+unfoldable pub textFor : Told → List ℕ → List ℕ
+textFor t s =
+    choose (eqb (t .number) 0) (statusLine t ++ (deedPrinted s ++ (settingLines (settingsIn s) ++ annotated s)))
+    (choose (eqb (t .number) 11) (statusLine t ++ placeLine t)
+    (statusLine t ++ (placeLine t ++ (deedPrinted s ++ annotated s))))
+
+-- the report
+abbrev pub reportOf : List ℕ → List ℕ
+reportOf s = textFor (intakeTold s) s
+
+-- the report after an operation on the record told t: the sheet's own refusal stands first
+abbrev pub toldAfter : List ℕ → Told → Told
+toldAfter s t = after (check true t) (intakeTold s)
+
+abbrev pub reportAfter : List ℕ → Told → List ℕ
+reportAfter s t = textFor (toldAfter s t) s

@@ -1,14 +1,17 @@
 // The report's text, whole.
+use answer::Answer;
 use settings::Settings;
 ghost use mathlib.Core.Path.{_≡_};
 ghost use Prim.Native.Nat.{_+_, _≤_, _<_};
 ghost use mathlib.Core.List.{[], _++_};
 ghost use lib.ListN.{length, drop};
+ghost use Rattle.answer.specs.Told.{toldOf};
 ghost use Rattle.text.specs.Hex.{hexDigit, hex};
 ghost use Rattle.grammar.specs.Sheet.{nl};
 ghost use Rattle.grammar.specs.Given.{fieldsIn};
+ghost use Rattle.intake.specs.Intake.{settingsIn};
 ghost use Rattle.report_text.specs.Words.{decimal, room, textOf, held, Holds};
-ghost use Rattle.report_text.specs.Report.{givenLines, viewLines, settingLines, annotated, reportOf};
+ghost use Rattle.report_text.specs.Report.{givenLines, viewLines, settingLines, annotated, textFor, reportOf, reportAfter};
 
 // The report's own keys; `deed=` and `pins=` are the sheet's.
 const STATUS_KEY: [u8; 7] = *b"status=";
@@ -168,14 +171,12 @@ fn annotated(text: Text, lent: &[u8], count: usize) -> Text
     append(counted, sheet::tail(lent))
 }
 
-// The report of a sheet.
-pub fn report(sheet: &[u8]) -> Text
-    ensures { λ r. ⌜ r ≡ textOf (reportOf (now (sheet .entry))) ⌝ }
+// The text where an answer is told of a sheet, by the settings and the number of annotations that were taken in of it.
+fn text_for(sheet: &[u8], settings: Settings, count: usize, answer: Answer) -> Text
+    requires { ⌜ count ≡ length (fieldsIn (now sheet) .annotations) ⌝ }
+    requires { ⌜ (toldOf answer .number ≡ 0 → settings ≡ settingsIn (now sheet)) ⌝ }
+    ensures { λ r. ⌜ r ≡ textOf (textFor (toldOf answer) (now (sheet .entry))) ⌝ }
 {
-    let taken = intake::settings_of(sheet);
-    let answer = taken.answer;
-    let settings = taken.settings;
-    let count = taken.annotations;
     let number = answer::number(answer);
     let status = number_line(blank(), &STATUS_KEY, number as usize);
     if number == 0 {
@@ -188,4 +189,23 @@ pub fn report(sheet: &[u8]) -> Text
     }
     let named = line(placed, &scan::DEED_KEY, sheet::deed(sheet));
     annotated(named, sheet, count)
+}
+
+// The report of a sheet.
+pub fn report(sheet: &[u8]) -> Text
+    ensures { λ r. ⌜ r ≡ textOf (reportOf (now (sheet .entry))) ⌝ }
+{
+    let taken = intake::settings_of(sheet);
+    let answer = taken.answer;
+    text_for(sheet, taken.settings, taken.annotations, answer)
+}
+
+// The report of a sheet after an operation on its record gave this answer; the sheet's own refusal stands first.
+pub fn report_after(sheet: &[u8], answer: Answer) -> Text
+    ensures { λ r. ⌜ r ≡ textOf (reportAfter (now (sheet .entry)) (toldOf answer)) ⌝ }
+{
+    let taken = intake::settings_of(sheet);
+    let own = taken.answer;
+    let told = answer::check(own, true, answer);
+    text_for(sheet, taken.settings, taken.annotations, told)
 }

@@ -1,5 +1,9 @@
-// Tries reports: document 01's example, sheets of each other status, and sheets broken in each kind of line. Prints each with its report.
+// Tries reports: document 01's example, sheets of each other status, and sheets broken in each kind of line; then reports after an operation on the record. Prints each with its report.
+use answer::Answer;
+use answer::Spot;
+use answer::Unfit;
 use trial::cut;
+use trial::number_and_place;
 use trial::quoted;
 use trial::say;
 
@@ -47,8 +51,42 @@ fn broken() {
     report(b"deed=K\npins=20\nwrites=0\nA=\n");
 }
 
+// Prints a sheet and its report after an operation on its record.
+fn report_after(sheet: &[u8], answer: Answer) {
+    say(b"report after");
+    number_and_place(answer);
+    say(b" of ");
+    quoted(sheet);
+    say(b"\n");
+    let text = report_text::report_after(sheet, answer);
+    let bytes = text.bytes;
+    say(cut(&bytes, text.len));
+}
+
+// Operations done and refused on accepted sheets, and on refused ones.
+fn after() {
+    let lettered = b"deed=K\npins=20\nwrites=0\na=b\n";
+    report_after(lettered, Answer::Done(0));
+    report_after(
+        b"deed=K\npins=20\nwrites=0\na=b\nc=\n",
+        Answer::Unfit(Unfit::ImageLength),
+    );
+    report_after(
+        b"deed=K\npins=00\nwrites=0\n",
+        Answer::Unfit(Unfit::FontLength),
+    );
+    report_after(lettered, Answer::At(Spot::Stray, 49152));
+    report_after(lettered, Answer::At(Spot::BrokenSheet, 7));
+    report_after(
+        b"deed=K\npins=40\nwrites=0\na=b\n",
+        Answer::Unfit(Unfit::ImageLength),
+    );
+    report_after(b"deed=k\n", Answer::Unfit(Unfit::ImageLength));
+}
+
 fn main() {
     example();
     statuses();
     broken();
+    after();
 }

@@ -1,0 +1,1 @@
+// What the PNG file of a frame with its border is: definitions and laws only, no code.
