@@ -2,7 +2,7 @@
 use Prim.Native.Nat.{ℕ, _-_, _≤_}
 use mathlib.Core.Path.{_≡_, refl, sym, ap, _∙_}
 use mathlib.Core.Bool.{Bool, true, false, not}
-use mathlib.Core.List.{List, _++_}
+use mathlib.Core.List.{List}
 use native.Mathlib.Omega.{arith}
 use borrow.Author.Tests.{eq-eqb, ne-eqb}
 use lib.Dec.{ltb}
@@ -13,7 +13,6 @@ use Rattle.promises.specs.Told.{Told, told, done}
 use Rattle.promises.specs.Order.{firstOf}
 use Rattle.answer.specs.declared.Answer.{Answer}
 use Rattle.answer.specs.Told.{toldOf}
-use Rattle.settings.specs.declared.Settings.{Settings}
 use Rattle.control.specs.Control.{played, firstElsewhere, playTold}
 use Rattle.text.specs.Code.{Reading, got, stuck}
 use Rattle.grammar.specs.Sheet.{Fields}

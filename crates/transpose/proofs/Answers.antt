@@ -1,6 +1,6 @@
 -- Laws of what transposing answers and leaves.
 use Prim.Native.Nat.{ℕ, _^_, _≤_}
-use mathlib.Core.Path.{_≡_, refl, sym, _∙_}
+use mathlib.Core.Path.{_≡_, refl}
 use mathlib.Core.Bool.{true}
 use mathlib.Core.List.{List, [], _∷_}
 use borrow.Author.Tests.{ltb-false, not-false}

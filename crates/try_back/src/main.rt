@@ -1,5 +1,4 @@
 // Tries reading back: each refusal, what is stray, and strips read back from drawn frames by their sums. Prints a line for each call.
-use answer::Answer;
 use trial::answered;
 use trial::cut;
 use trial::form;

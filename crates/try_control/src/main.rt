@@ -1,5 +1,4 @@
 // Tries control writes: the figures of document 01, each bit, and corners. Prints a line for each.
-use answer::Answer;
 use trial::cut;
 use trial::figure_name;
 use trial::form;

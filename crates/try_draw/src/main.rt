@@ -1,6 +1,5 @@
 // Tries drawing: the dots of document 01's figures, letters and blocks, each refusal, and whole frames by their sums.
 // Prints a line for each.
-use answer::Answer;
 use settings::Look;
 use trial::answered;
 use trial::byte_at;

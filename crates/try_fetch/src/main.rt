@@ -1,6 +1,5 @@
 // Tries fetching: the addresses of document 01's figures, each refusal, buffers of all lengths, and whole strips by their sums.
 // Prints a line for each.
-use answer::Answer;
 use counter::Counter;
 use settings::Settings;
 use trial::answered;

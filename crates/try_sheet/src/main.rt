@@ -1,5 +1,4 @@
 // Tries sheets: each corner of document 01's sheet, refused with its place or accepted with its fields. Prints a line for each.
-use answer::Answer;
 use trial::cut;
 use trial::form;
 use trial::least;

@@ -1,7 +1,6 @@
 -- `back::take` meets its contract.
 use Prim.Native.Nat.{ℕ, _≤_, zero-le}
-use mathlib.Core.Path.{_≡_, sym, ap, _∙_}
-use mathlib.Core.List.{List}
+use mathlib.Core.Path.{ap, _∙_}
 use native.Mathlib.Omega.{arith}
 use denote.Ref.{now}
 use lib.ListN.{length, length-replicate}

@@ -1,7 +1,7 @@
 -- `report_text::view_lines` meets its contract.
-use Prim.Native.Nat.{ℕ, _+_, _≤_}
+use Prim.Native.Nat.{_+_, _≤_}
 use mathlib.Core.Path.{_≡_, sym, ap, _∙_}
-use mathlib.Core.List.{List, _++_, append-assoc}
+use mathlib.Core.List.{_++_, append-assoc}
 use native.Mathlib.Omega.{arith}
 use lib.ListN.{length, take}
 use Rattle.settings.specs.Modes.{modeName}

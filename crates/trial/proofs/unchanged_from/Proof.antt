@@ -1,7 +1,6 @@
 -- `trial::unchanged_from` meets its contract.
 use Prim.Native.Nat.{_-_, _≤_, zero-le}
 use mathlib.Core.Path.{_≡_, sym, _∙_, ap}
-use borrow.Author.Needs.{needs}
 use native.Mathlib.Omega.{arith}
 use lib.ListN.{length}
 use Rattle.trial.specs.Buffers.{unchangedTo}
