@@ -1,7 +1,8 @@
-"""Figures to check by: document 01's own figures, and those of the standards that a picture file goes by, held against these modules."""
+"""Figures to check by: document 01's own, figures of CR 1 counted by hand, and those of the standards that a picture file goes by, held against these modules."""
 
 import zlib
 
+import cover
 import draw
 import fetch
 import numbers
@@ -140,8 +141,32 @@ def picture_files():
     yield "pixels", png.pixels(file) == (4, frame), True
 
 
+def covers():
+    """CR 1: the record's first value, one that only the cover has, an empty one, none; 11 for the cover, and 11 for the record before it."""
+    record = b"deed=A\npins=00\nwrites=0\na=1\na=2\n"
+    shared = b"deed=A\npins=00\nwrites=0\nb=\nab=3\na=4\n"
+    for key, answer, part in (
+        (b"a", (0, 0, 0), (0, 26, b"1")),
+        (b"ab", (0, 0, 1), (1, 30, b"3")),
+        (b"b", (0, 0, 1), (1, 26, b"")),
+        (b"c", (12, 0, 0), (0, 0, b"")),
+        (b"", (12, 0, 0), (0, 0, b"")),
+        (b"a=", (12, 0, 0), (0, 0, b"")),
+    ):
+        yield "holder", (key, cover.holder(record, shared, key)), (key, answer)
+        yield "value", (key, cover.value(record, shared, key)), (key, part)
+    yield "cover broken", cover.holder(record, b"deed=", b"a"), (11, 5, 0)
+    yield "cover broken, no such key", cover.holder(record, b"deed=", b"c"), (11, 5, 0)
+    yield "both broken", cover.holder(b"deed", b"deed=", b"a"), (11, 4, 0)
+    yield "nothing beside a cover that is broken", cover.value(record, b"deed=", b"a"), (0, 0, b"")
+    yield "printed", cover.text(record, shared, b"ab"), b"status=0\nsheet=cover\nvalue=3\n"
+    yield "printed of a broken cover", cover.text(record, b"deed=", b"a"), b"status=11\nsheet=cover\nplace=5\n"
+    yield "printed of no key", cover.text(record, shared, b"c"), b"status=12\nplace=0\n"
+
+
 CHAPTERS = {
     "document 01": (control_writes, fetched_addresses, dots, refusals, longest_sheet, reports),
+    "CR 1": (covers,),
     "the picture file": (checks, picture_files),
 }
 

@@ -26,6 +26,17 @@ SHEET = (
     b"surveyed=12 May 1983\n"
 )
 
+# The cover sheet of the batch that the record belongs to, with what was written once for all its records.
+COVER = (
+    b"deed=BATCH-7\n"
+    b"pins=00\n"
+    b"writes=0\n"
+    b"parish=Aldmere\n"
+    b"surveyed=spring 1983\n"
+    b"clerk=R. Wickstead\n"
+    b"parish=Aldmere and Thornby, from 1979\n"
+)
+
 # What the terminal's memory had left over before the window, and after it. It is no part of the plan.
 BEFORE = (
     b"DRAFT - NOT REGISTERED\r"

@@ -1,6 +1,7 @@
 """What each trial program prints: its questions are read off crates/NAME/src/main.rt, the answers come from the chapters."""
 
 import chips
+import cover
 import fetch
 import numbers
 import pins
@@ -663,6 +664,65 @@ def try_picture():
     yield from decodes_lines(png.picture(4, vary9(49152)))
 
 
+# == try_lookup
+
+NOTED = (
+    b"deed=K-104\npins=20\nwrites=1\nat=FFC1\n"
+    b"plan-note=north corner\ncolour=\nplan-note=second\na=b=c\n"
+)
+COVERING = b"deed=B-7\npins=00\nwrites=0\nparish=Aldmere\ncolour=red\nparish=Thornby\nplan=whole batch\n"
+BROKEN = b"deed=B-7\npins=00\nwrites=0\nat=red\n"
+BARE = b"deed=B-7\npins=00\nwrites=0\n"
+
+# Keys and values as long as may be, and values of any bytes but 10.
+WIDE = BARE + b"a" * 15 + b"=first\n" + b"a" * 16 + b"=second\n" + b"v=" + b"v" * 120 + b"\nbytes=\x00\xff\r==\n"
+
+# Asked of two sheets that have them or not, and what can be no key.
+KEYS = (b"plan-note", b"colour", b"parish", b"plan", b"a", b"plan-not", b"plan-note-", b"note")
+NO_KEYS = (b"", b"deed", b"pins", b"writes", b"at", b"a=", b"a=b", b"Parish", b"parish\n", b"\nparish", b"plan-note=north corner", b"a" * 17)
+
+
+def ask_line(record, shared, key):
+    """What is told of a key in a record's sheet and its cover, and the value given."""
+    return quoted(key) + told(cover.holder(record, shared, key)) + " " + quoted(cover.value(record, shared, key).content)
+
+
+def asks_lines(record, shared, *keys):
+    """Both sheets, and a line for each key that is asked."""
+    yield "record " + quoted(record) + " cover " + quoted(shared)
+    for key in keys:
+        yield ask_line(record, shared, key)
+
+
+def brokens_lines():
+    """Sheets that are refused: the record's, the cover, both, and an empty one."""
+    yield from asks_lines(BROKEN, COVERING, b"parish", b"at")
+    yield from asks_lines(NOTED, BROKEN, b"plan-note", b"parish")
+    yield from asks_lines(b"deed=K-104\npins=2x\n", BROKEN, b"plan-note")
+    yield from asks_lines(NOTED, BARE + b"par", b"a")
+    yield from asks_lines(NOTED, b"", b"a", b"")
+    yield from asks_lines(b"", COVERING, b"parish")
+
+
+def many_lines():
+    """200 annotations, of which the last alone has another key: in the record's sheet, in the cover, in both."""
+    many = BARE + b"k=v\n" * 199 + b"last=200\n"
+    for name, record, shared in (("record", many, BARE), ("cover", BARE, many), ("both", many, many)):
+        for key in (b"k", b"last", b"las"):
+            yield "200 lines, " + name + " " + ask_line(record, shared, key)
+
+
+def try_lookup():
+    """Keys asked of a record's sheet and a cover."""
+    yield from asks_lines(NOTED, COVERING, *KEYS, *NO_KEYS)
+    yield from asks_lines(COVERING, NOTED, *KEYS)
+    yield from asks_lines(NOTED, NOTED, b"a", b"parish")
+    yield from asks_lines(BARE, WIDE, b"a" * 15, b"a" * 16, b"a" * 17, b"v", b"bytes", b"rule")
+    yield from asks_lines(BARE, BARE, b"a")
+    yield from brokens_lines()
+    yield from many_lines()
+
+
 # == All programs: those that are given nothing print lines, and the tools answer their standard input.
 
 TRIALS = {
@@ -675,6 +735,7 @@ TRIALS = {
     "try_report": try_report,
     "try_chip": try_chip,
     "try_picture": try_picture,
+    "try_lookup": try_lookup,
 }
 
 
@@ -721,12 +782,19 @@ def restore_tool(given, arguments):
     return b"".join(lines if answer[0] else lines[:1])
 
 
+def note_tool(given, arguments):
+    """The note under a key in the sheets that are named: the example record's, and the cover of its batch."""
+    sheets = {b"plan.sheet": plan.SHEET, b"cover.sheet": plan.COVER}
+    return cover.text(sheets[arguments[1]], sheets[arguments[2]], arguments[0])
+
+
 TOOLS = {
     "report": report_tool,
     "chips": chips_tool,
     "example": example_tool,
     "copy": copy_tool,
     "restore": restore_tool,
+    "note": note_tool,
 }
 
 
@@ -736,6 +804,11 @@ TOOLS = {
 def plan_sheet():
     """The sheet of the example record."""
     return plan.SHEET
+
+
+def plan_cover():
+    """The cover sheet of the batch that the example record belongs to."""
+    return plan.COVER
 
 
 def plan_copy():
@@ -749,6 +822,8 @@ FILES = {
     "crates/copy/data/plan.image": plan.image,
     "crates/restore/data/plan.png": plan_copy,
     "docs/copy.png": plan_copy,
+    "crates/note/data/plan.sheet": plan_sheet,
+    "crates/note/data/cover.sheet": plan_cover,
 }
 
 

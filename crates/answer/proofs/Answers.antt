@@ -4,7 +4,7 @@ use lib.Dec.{eqb}
 use Rattle.promises.specs.Choose.{choose}
 use Rattle.promises.specs.Told.{Told}
 use Rattle.answer.specs.declared.Unfit.the-variants.{PinsAbove, External, TextBack, FastRate, ImageLength, FontLength, ShortStrip, ShortFrame}
-use Rattle.answer.specs.declared.Later.the-variants.{OtherChip, ShortDestination}
+use Rattle.answer.specs.declared.Later.the-variants.{OtherChip, ShortDestination, NoKey}
 use Rattle.answer.specs.declared.Spot.the-variants.{Stray, BrokenSheet, NoPicture}
 use Rattle.answer.specs.declared.Answer.{Answer}
 use Rattle.answer.specs.declared.Answer.the-variants.{Done, Unfit as ByUnfit, Later as ByLater, At, Elsewhere}
@@ -25,8 +25,9 @@ ofTold t =
     (choose (eqb (t .number) 9) (At Stray (t .place))
     (choose (eqb (t .number) 10) (Elsewhere (t .place) (t .value))
     (choose (eqb (t .number) 11) (At BrokenSheet (t .place))
+    (choose (eqb (t .number) 12) (ByLater NoKey)
     (choose (eqb (t .number) 13) (ByLater OtherChip)
-    (choose (eqb (t .number) 14) (ByLater ShortDestination) (At NoPicture (t .place)))))))))))))))
+    (choose (eqb (t .number) 14) (ByLater ShortDestination) (At NoPicture (t .place))))))))))))))))
 
 back : (a : Answer) → ofTold (toldOf a) ≡ a
 unfolding ofTold
@@ -41,6 +42,7 @@ back (ByUnfit ShortStrip) = refl
 back (ByUnfit ShortFrame) = refl
 back (ByLater OtherChip) = refl
 back (ByLater ShortDestination) = refl
+back (ByLater NoKey) = refl
 back (At Stray p) = refl
 back (At BrokenSheet p) = refl
 back (At NoPicture p) = refl

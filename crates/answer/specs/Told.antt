@@ -4,7 +4,7 @@ use Rattle.promises.specs.Told.{Told, told, done, refused}
 use Rattle.answer.specs.declared.Unfit.{Unfit}
 use Rattle.answer.specs.declared.Unfit.the-variants.{PinsAbove, External, TextBack, FastRate, ImageLength, FontLength, ShortStrip, ShortFrame}
 use Rattle.answer.specs.declared.Later.{Later}
-use Rattle.answer.specs.declared.Later.the-variants.{OtherChip, ShortDestination}
+use Rattle.answer.specs.declared.Later.the-variants.{OtherChip, ShortDestination, NoKey}
 use Rattle.answer.specs.declared.Spot.{Spot}
 use Rattle.answer.specs.declared.Spot.the-variants.{Stray, BrokenSheet, NoPicture}
 use Rattle.answer.specs.declared.Answer.{Answer}
@@ -25,6 +25,7 @@ unfitNumber ShortFrame = 8
 abbrev pub laterNumber : Later → ℕ
 laterNumber OtherChip = 13
 laterNumber ShortDestination = 14
+laterNumber NoKey = 12
 
 -- with a place
 abbrev pub spotNumber : Spot → ℕ

@@ -19,6 +19,7 @@ pub enum Unfit {
 pub enum Later {
     OtherChip,
     ShortDestination,
+    NoKey,
 }
 
 // Refusals that name a place.
@@ -63,6 +64,7 @@ fn later_number(l: Later) -> u8
     match l {
         Later::OtherChip => 13,
         Later::ShortDestination => 14,
+        Later::NoKey => 12,
     }
 }
 

@@ -17,6 +17,7 @@ use Rattle.picture.proofs.Unique.{encode-op}
 use Rattle.picture_back.proofs.Unique.{decode-op}
 use Rattle.intake.specs.declared.Intake.{Intake}
 use Rattle.intake.proofs.Unique.{settings-of-op}
+use Rattle.lookup.proofs.Unique.{holder-op, value-op}
 use Rattle.report_text.specs.declared.Text.{Text}
 use Rattle.report_text.proofs.Unique.{report-op, report-after-op}
 
@@ -64,6 +65,14 @@ Decodes κs png frame z out = Allows decode-op κs (png, (frame, tt)) z (tt, (ou
 -- `settings_of` may give r
 abbrev pub TakesIn : Lfts 1 → Lent → Intake → Type 0
 TakesIn κs sheet r = Allows settings-of-op κs (sheet, tt) r (tt, tt)
+
+-- `holder` of a record's sheet, a cover and a key may answer z
+abbrev pub Finds : Lfts 3 → Lent → Lent → Lent → Answer → Type 0
+Finds κs own cover key z = Allows holder-op κs (own, (cover, (key, tt))) z (tt, (tt, (tt, tt)))
+
+-- `value` of them may give the part r
+abbrev pub Gives : Lfts 2 → Lent → Lent → Lent → Lent → Type 0
+Gives κs own cover key r = Allows value-op κs (own, (cover, (key, tt))) r (tt, (tt, (tt, tt)))
 
 -- `report` may give the text r
 abbrev pub Reports : Lfts 1 → Lent → Text → Type 0

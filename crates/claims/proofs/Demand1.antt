@@ -11,6 +11,7 @@ use denote.Ref.{now}
 use lib.Dec.{T, eqb}
 use lib.ListN.{length, getD}
 use borrow.Author.Tests.{eqb-true, eqb-false, eq-eqb, ne-eqb}
+use Rattle.promises.specs.Choose.{choose}
 use Rattle.promises.specs.Told.{Told, done}
 use Rattle.promises.specs.Order.{Check, after, firstOf, HoldsFirst, NoneHolds, areRefusals}
 use Rattle.promises.specs.Written.{written}
@@ -48,11 +49,12 @@ use Rattle.grammar.specs.Given.{padded, fieldsIn, noFields, sheetOrder, lineAt}
 use Rattle.grammar.proofs.Parts.{sheet-told, refused-fields}
 use Rattle.sheet.specs.declared.Sheet.{Sheet}
 use Rattle.sheet.proofs.Annotations.{Reads, Deed, Line, Tail, deed-holds, line-holds, tail-holds}
+use Rattle.lookup.specs.Lookup.{hasKey, holderOrder, holderTold}
 use Rattle.report_text.specs.declared.Text.{Text}
 use Rattle.report_text.specs.Words.{held}
 use Rattle.report_text.specs.Report.{statusLine, toldAfter}
 use Rattle.report_text.proofs.Fits.{holds-report, begins-with-status}
-use Rattle.claims.proofs.Calls.{Lent, Plays, Fetches, Draws, Shows, ReadsBack, ToImage, ToChip, Encodes, Decodes, TakesIn, Reports, ReportsAfter}
+use Rattle.claims.proofs.Calls.{Lent, Plays, Fetches, Draws, Shows, ReadsBack, ToImage, ToChip, Encodes, Decodes, TakesIn, Finds, Reports, ReportsAfter}
 
 -- what is told is what the order says: each number exactly when its condition holds and none earlier does, done exactly when none does
 pub record Ordered (told : Told) (order : List Check) (value : ℕ) : Type 0 where
@@ -195,6 +197,12 @@ settings-demand κs sheet z p = (
 -- a sheet alone: 11
 pub read-demand : (κs : Lfts 1) (sheet : Lent) (z : Sheet) → Reads κs sheet z → Ordered (toldOf (z .answer)) (sheetOrder (now sheet)) 0
 read-demand κs sheet z p = ordered (sheetOrder (now sheet)) 0 tt (p .told ∙ sheet-told (now sheet))
+
+-- a key in a record's sheet and a cover: 11, 11, 12. Neither question is lent a buffer to write to
+pub holder-demand : (κs : Lfts 3) (own cover key : Lent) (z : Answer) → Finds κs own cover key z
+    → Ordered (toldOf z) (holderOrder (now own) (now cover) (now key)) (choose (hasKey (now own) (now key)) 0 1)
+unfolding holderTold
+holder-demand κs own cover key z p = ordered (holderOrder (now own) (now cover) (now key)) (choose (hasKey (now own) (now key)) 0 1) tt p
 
 -- a refused sheet yields an empty deed, pins 0, no writes and 0 annotations, and its parts are empty
 pub record Nothing (sheet : Lent) (z : Sheet) : Type 0 where

@@ -9,5 +9,6 @@ pub mod Alikes
 pub mod Felt
 pub mod Chips
 pub mod Copy
+pub mod Cover
 pub mod Ascents
 pub mod Unfit

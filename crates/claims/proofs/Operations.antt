@@ -18,6 +18,7 @@ use Rattle.picture_back.proofs.Unique as picture-back
 use Rattle.scan.proofs.Unique as scan
 use Rattle.sheet.proofs.Unique as sheet
 use Rattle.intake.proofs.Unique as intake
+use Rattle.lookup.proofs.Unique as lookup
 use Rattle.report_text.proofs.Unique as report-text
 use Rattle.trial.proofs.Unique as trial
 
@@ -69,6 +70,8 @@ operations =
     ∷ fixed sheet.annotation-fixes
     ∷ fixed sheet.tail-fixes
     ∷ fixed intake.settings-of-fixes
+    ∷ fixed lookup.holder-fixes
+    ∷ fixed lookup.value-fixes
     ∷ fixed report-text.report-fixes
     ∷ fixed report-text.report-after-fixes
     ∷ fixed trial.look-of-fixes
@@ -136,6 +139,8 @@ pub named : map (λ o. o .operation .key) operations
     ∷ "sheet::annotation"
     ∷ "sheet::tail"
     ∷ "intake::settings_of"
+    ∷ "lookup::holder"
+    ∷ "lookup::value"
     ∷ "report_text::report"
     ∷ "report_text::report_after"
     ∷ "trial::look_of"

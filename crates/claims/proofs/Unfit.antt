@@ -14,6 +14,7 @@ use Rattle.promises.specs.Told.{Told, done}
 use Rattle.promises.specs.Order.{NoneHolds}
 use Rattle.promises.specs.Written.{Bytes}
 use Rattle.promises.proofs.Orders.{done-when}
+use Rattle.promises.specs.First.{firstWhere}
 use Rattle.promises.proofs.Firsts.{first-none}
 use Rattle.answer.specs.declared.Answer.{Answer}
 use Rattle.settings.specs.declared.Look.{Look}
@@ -46,8 +47,10 @@ use Rattle.grammar.specs.Given.{sheetOrder}
 use Rattle.grammar.proofs.Length.{one-as-long}
 use Rattle.sheet.specs.declared.Sheet.{Sheet}
 use Rattle.sheet.proofs.Annotations.{Reads, Line}
-use Rattle.claims.proofs.Calls.{Lent, Plays, Fetches, Draws, Shows, ReadsBack, ToImage, ToChip, Encodes, Decodes}
-use Rattle.claims.proofs.Demand1.{play-demand, fetch-demand, draw-demand, show-demand, back-demand, read-demand, to-image-demand, to-chip-demand, encode-demand, decode-demand}
+use Rattle.lookup.specs.Lookup.{holderOrder}
+use Rattle.lookup.proofs.Examples.{recordSheet, coverSheet}
+use Rattle.claims.proofs.Calls.{Lent, Plays, Fetches, Draws, Shows, ReadsBack, ToImage, ToChip, Encodes, Decodes, Finds}
+use Rattle.claims.proofs.Demand1.{play-demand, fetch-demand, draw-demand, show-demand, back-demand, read-demand, to-image-demand, to-chip-demand, encode-demand, decode-demand, holder-demand}
 use Rattle.claims.proofs.Demand2.{Done, value, one-more-write, strip-bytes, frame-pixels, shown-byte, shown-pixel, counted-lines}
 use Rattle.claims.proofs.Chips.{image-byte, chip-byte}
 use Rattle.claims.proofs.Copy.{picture-byte, pixel-left}
@@ -85,7 +88,10 @@ encode-accepts κs border frame png z out p = encode-demand κs border frame png
 pub decode-accepts : (κs : Lfts 2) (png frame : Lent) (z : Answer) (out : List ℕ) → Decodes κs png frame z out → (Done z) ↔ NoneHolds (decodeOrder (now png) (now frame))
 decode-accepts κs png frame z out p = decode-demand κs png frame z out p .0 .done-if
 
--- and for each of them there is such a call: what is lent is n times 0, the sheet is the longest one, and the file is the picture of such a frame.
+pub holder-accepts : (κs : Lfts 3) (own cover key : Lent) (z : Answer) → Finds κs own cover key z → (Done z) ↔ NoneHolds (holderOrder (now own) (now cover) (now key))
+holder-accepts κs own cover key z p = holder-demand κs own cover key z p .done-if
+
+-- and for each of them there is such a call: what is lent is n times 0, the sheet is the longest one, the file is the picture of such a frame, and keys are asked of two short sheets, one that the record's has and one that only the cover has.
 abbrev zeros : ℕ → List ℕ
 zeros n = replicate n 0
 
@@ -123,6 +129,10 @@ some-read-back = (refl, (refl, (refl, (refl, (le-ltb (firstStray (lookOf 0x20) (
 
 pub some-sheet : (s : List ℕ) × NoneHolds (sheetOrder s)
 some-sheet = (one-as-long .0, (rw (one-as-long .1) refl, tt))
+
+pub some-held : NoneHolds (holderOrder recordSheet coverSheet (0x61 ∷ [])) × NoneHolds (holderOrder recordSheet coverSheet (0x62 ∷ []))
+unfolding firstWhere
+some-held = ((refl, (refl, (refl, tt))), (refl, (refl, (refl, tt))))
 
 pub some-transposed : NoneHolds (chipOrder 6 4096 4096) × NoneHolds (chipOrder 7 32768 32768) × NoneHolds (chipOrder 8 65536 65536)
 some-transposed = ((refl, (refl, tt)), (refl, (refl, tt)), (refl, (refl, tt)))

@@ -1,11 +1,12 @@
 // The clerk's copy: from a sheet, an image and a font to the strip that is kept, the picture that is shown, and the report.
 mod files;
+mod reading;
 
 use answer::Answer;
-use files::Found;
 use libc::STDERR_FILENO;
 use libc::STDOUT_FILENO;
 use picture::FILE_LENGTH;
+use reading::Found;
 use settings::FRAME_LENGTH;
 use settings::Settings;
 ghost use Prim.Native.Nat.{_≤_};
@@ -177,7 +178,7 @@ fn read_arg(i: usize, room: &mut [u8]) -> Found
 {
     let mut path = io::buffer();
     let n = os::arg(i, &mut path);
-    files::read_file(&WHO, &path[..n], room)
+    reading::read_file(&WHO, &path[..n], room)
 }
 
 // Whether the third argument says that there is no font.

@@ -5,7 +5,7 @@ use mathlib.Core.Path.{_≡_, refl, sym, subst}
 use mathlib.Core.Logic.{⊎-elim}
 use mathlib.Core.List.{List, [], _∷_, _++_, append-nil}
 use mathlib.Core.Bool.{Bool, true, false, _||_}
-use borrow.Author.Tests.{eqb-true, not-false}
+use borrow.Author.Tests.{eqb-true, eq-eqb, not-false}
 use lib.Dec.{eqb}
 use lib.ListN.{length, length-append}
 use Rattle.promises.proofs.Choices.{either}
@@ -13,7 +13,7 @@ use Rattle.text.specs.Combine.{All, closed}
 use Rattle.text.proofs.Tests.{clash, and-split}
 use Rattle.grammar.specs.Sheet.{keyByte, deedWord, pinsWord, writesWord, atWord, same, free}
 
-same-eq : (k l : List ℕ) → same k l ≡ true → k ≡ l
+pub same-eq : (k l : List ℕ) → same k l ≡ true → k ≡ l
 same-eq [] [] h = refl
 same-eq [] (c ∷ l) h = absurd (clash h refl)
 same-eq (b ∷ k) [] h = absurd (clash h refl)
@@ -22,6 +22,10 @@ same-eq (b ∷ k) (c ∷ l) h =
     let x : b ≡ c = eqb-true b c (s .0) in
     let y : k ≡ l = same-eq k l (s .1) in
     cc
+
+pub same-refl : (k : List ℕ) → same k k ≡ true
+same-refl [] = refl
+same-refl (b ∷ k) = rw (eq-eqb b b refl) (same-refl k)
 
 abbrev Filled : List ℕ → Type 0
 Filled u = (x : List ℕ) × closed keyByte 1 16 61 .Valid (u ++ x) × (free (u ++ x) ≡ true)

@@ -20,7 +20,7 @@ use Rattle.text.proofs.Lists.{le-or-lt}
 use Rattle.text.proofs.Back.{back-any}
 use Rattle.grammar.specs.Sheet.{deedWord, eq, nl, pinsLine, writesLine, atLine, Annotation, line, annotationLine, Fields, ValidSheet, front, lines, render}
 use Rattle.grammar.specs.Read.{readAnnotation, readSheet}
-use Rattle.grammar.specs.Given.{isGot, toldRead, noFields, fieldsRead, accepted, toldIn, fieldsIn, sheetOrder, deedFrom, tailFrom, annotationFrom, lineAt}
+use Rattle.grammar.specs.Given.{isGot, toldRead, noFields, fieldsRead, accepted, toldIn, fieldsIn, sheetOrder, deedFrom, tailFrom, annotationFrom, annotationAt, lineAt}
 use Rattle.grammar.proofs.Grammar.{accepted-fields, annotation-right, annotation-prefix}
 
 -- ---- an accepted sheet is the bytes of its fields
@@ -106,6 +106,7 @@ module _ (s : List ℕ) (h : accepted s ≡ true) where
 -- ---- the annotation lines one by one: line i of a list, before what follows it
 record AtLine (l : List Annotation) (i : ℕ) : Type 0 where
   value : Annotation
+  is : annotationAt l i ≡ value
   valid : annotationLine .Valid value
   rest : List ℕ
   here : drop (length (lines (take i l))) (lines l) ≡ annotationLine .text value ++ rest
@@ -114,12 +115,13 @@ record AtLine (l : List Annotation) (i : ℕ) : Type 0 where
 
 at-line : (l : List Annotation) (i : ℕ) → AllValid annotationLine l → i < length l → AtLine l i
 at-line [] i h k = absurd (omega arith)
-at-line (a ∷ l) zero h k = record { value = a; valid = h .0; rest = lines l; here = refl; next = length-append (annotationLine .text a) [] ∙ omega arith; named = refl }
+at-line (a ∷ l) zero h k = record { value = a; is = refl; valid = h .0; rest = lines l; here = refl; next = length-append (annotationLine .text a) [] ∙ omega arith; named = refl }
 at-line (a ∷ l) (suc i) h k =
     let r = at-line l i (h .1) (le-of-suc-le-suc k) in
     let t = annotationLine .text a in
     record {
       value = r .value;
+      is = r .is;
       valid = r .valid;
       rest = r .rest;
       here =
@@ -133,6 +135,10 @@ at-line (a ∷ l) (suc i) h k =
 -- line i of an accepted sheet: it is read where the lines before it end
 pub record LineIn (s : List ℕ) (i : ℕ) : Type 0 where
   pub value : Annotation
+  pub is : annotationAt (fieldsIn s .annotations) i ≡ value
+  pub valid : annotationLine .Valid value
+  pub rest : List ℕ
+  pub here : drop (tailFrom s + length (lines (take i (fieldsIn s .annotations)))) s ≡ line value ++ (nl ++ rest)
   pub read : readAnnotation (drop (tailFrom s + length (lines (take i (fieldsIn s .annotations)))) s) ≡ got value (length (line value) + 1)
   pub next : tailFrom s + length (lines (take i (fieldsIn s .annotations))) + (length (line value) + 1) ≡ tailFrom s + length (lines (take (i + 1) (fieldsIn s .annotations)))
   pub named : lineAt (fieldsIn s .annotations) i ≡ line value
@@ -146,16 +152,21 @@ line-in s i h k =
     let a = tailFrom s + length (lines (take i l)) in
     let t = annotationLine .text (r .value) in
     let size : length t ≡ length (line (r .value)) + 1 = length-append (line (r .value)) nl in
-    let here : drop a s ≡ t ++ r .rest = sym (drop-drop (length (lines (take i l))) (tailFrom s) s) ∙ ap (drop (length (lines (take i l)))) (tail-rest s h) ∙ r .here in
+    let there : drop a s ≡ t ++ r .rest = sym (drop-drop (length (lines (take i l))) (tailFrom s) s) ∙ ap (drop (length (lines (take i l)))) (tail-rest s h) ∙ r .here in
     let got-it : readAnnotation (drop a s) ≡ got (r .value) (length t) =
-    ap readAnnotation here ∙ back-any annotationLine annotation-prefix (r .value) (r .rest) (r .valid) (readAnnotation (t ++ r .rest)) (annotation-right (t ++ r .rest)) in
+    ap readAnnotation there ∙ back-any annotationLine annotation-prefix (r .value) (r .rest) (r .valid) (readAnnotation (t ++ r .rest)) (annotation-right (t ++ r .rest)) in
+    let here = there ∙ append-assoc (line (r .value)) nl (r .rest) in
     record {
       value = r .value;
+      is = r .is;
+      valid = r .valid;
+      rest = r .rest;
+      here = here;
       read = got-it ∙ ap (got (r .value)) size;
       next = omega (arith, size, r .next, ap (λ (j : ℕ). length (lines (take j l))) (add-one i));
       named = r .named;
-      within = omega (arith, size, length-drop a s, ap length here, length-append t (r .rest));
-      holds = ap (take (length (line (r .value)))) (here ∙ append-assoc (line (r .value)) nl (r .rest)) ∙ take-at (line (r .value)) (nl ++ r .rest) (length (line (r .value))) refl;
+      within = omega (arith, size, length-drop a s, ap length there, length-append t (r .rest));
+      holds = ap (take (length (line (r .value)))) here ∙ take-at (line (r .value)) (nl ++ r .rest) (length (line (r .value))) refl;
     }
 
 -- ---- annotation n

@@ -3,7 +3,7 @@ use Prim.Native.Nat.{ℕ, zero, suc, _+_, _-_}
 use mathlib.Core.List.{List, [], _∷_, _++_}
 use mathlib.Core.Bool.{Bool, true, false, not}
 use lib.Dec.{ltb}
-use lib.ListN.{length, take, replicate}
+use lib.ListN.{length, take, getD, replicate}
 use Rattle.promises.specs.Choose.{choose}
 use Rattle.promises.specs.Told.{Told, told, done}
 use Rattle.promises.specs.Order.{Check, check}
@@ -58,6 +58,10 @@ tailFrom s = choose (accepted s) (length (front (fieldsIn s))) 0
 -- annotation n lies after those before it; there is none past the last
 abbrev pub annotationFrom : List ℕ → ℕ → ℕ
 annotationFrom s n = choose (ltb n (length (fieldsIn s .annotations))) (tailFrom s + length (lines (take n (fieldsIn s .annotations)))) 0
+
+-- annotation n, counted from 0; past the last, one with no key and no value
+abbrev pub annotationAt : List Annotation → ℕ → Annotation
+annotationAt l n = getD l n (record { key = []; value = [] })
 
 -- annotation n without its byte 10, and nothing past the last
 abbrev pub lineAt : List Annotation → ℕ → List ℕ

@@ -42,6 +42,16 @@ unfolding firstWhere
 first-before p zero j l = absurd (omega arith)
 first-before p (suc n) j l = before-by p (p 0) (firstWhere (λ (k : ℕ). p (suc k)) n) j refl (first-before (λ (k : ℕ). p (suc k)) n) l
 
+-- below n the test holds at it
+holds-by : (p : ℕ → Bool) (b : Bool) (m n : ℕ) → p 0 ≡ b → (m < n → p (suc m) ≡ true) → choose b 0 (suc m) < suc n → p (choose b 0 (suc m)) ≡ true
+holds-by p true m n e h l = e
+holds-by p false m n e h l = h (le-of-suc-le-suc l)
+
+pub first-holds : (p : ℕ → Bool) (n : ℕ) → firstWhere p n < n → p (firstWhere p n) ≡ true
+unfolding firstWhere
+first-holds p zero l = absurd (omega arith)
+first-holds p (suc n) l = holds-by p (p 0) (firstWhere (λ (k : ℕ). p (suc k)) n) n refl (first-holds (λ (k : ℕ). p (suc k)) n) l
+
 -- so it is n exactly where the test holds nowhere
 pub nowhere : (p : ℕ → Bool) (n : ℕ) → firstWhere p n ≡ n → (j : ℕ) → j < n → p j ≡ false
 nowhere p n e j l = first-before p n j (rw e l)

@@ -1,5 +1,6 @@
 // The strip out of a picture: from the picture file of a graphics screen to the strip that it shows, by the pins.
 mod files;
+mod reading;
 
 use answer::Answer;
 use libc::STDERR_FILENO;
@@ -100,7 +101,7 @@ fn restore(pins: u8, png: &[u8], path: &[u8]) {
 // Reads the picture, with a byte more than every picture has, and restores its strip.
 fn by_names(pins: u8, picture_path: &[u8], strip_path: &[u8]) {
     let mut png = [0u8; FILE_LENGTH + 1];
-    let found = files::read_file(&WHO, picture_path, &mut png);
+    let found = reading::read_file(&WHO, picture_path, &mut png);
     if found.whole {
         let len = found.len;
         restore(pins, &png[..len], strip_path);

@@ -11,7 +11,10 @@ use lib.Seq.{drop-cons}
 use Rattle.promises.specs.Choose.{choose}
 use Rattle.text.specs.Combine.{span, common}
 
--- what is left from j on, one byte at a time
+-- what is left from n on, and from at + n on, one byte at a time
+pub from-cons : (s : List ℕ) (n : ℕ) → n < length s → drop n s ≡ getD s n 0 ∷ drop (n + 1) s
+from-cons s n h = drop-cons s n 0 h ∙ ap (λ (j : ℕ). getD s n 0 ∷ drop j s) (let q : suc n ≡ n + 1 = omega arith in q)
+
 pub left-cons : (s : List ℕ) (at n : ℕ) → at + n < length s → drop (at + n) s ≡ getD s (at + n) 0 ∷ drop (at + (n + 1)) s
 left-cons s at n h = drop-cons s (at + n) 0 h ∙ ap (λ (j : ℕ). getD s (at + n) 0 ∷ drop j s) (let q : suc (at + n) ≡ at + (n + 1) = omega arith in q)
 
@@ -46,14 +49,11 @@ module _ (k s : List ℕ) (n at : ℕ) where
   pub common-over : length k ≤ n → common (drop n k) (drop (at + n) s) ≡ 0
   common-over h = rw (drop-of-length-le k h)
 
-  key-cons : n < length k → drop n k ≡ getD k n 0 ∷ drop (n + 1) k
-  key-cons h = drop-cons k n 0 h ∙ ap (λ (j : ℕ). getD k n 0 ∷ drop j k) (let q : suc n ≡ n + 1 = omega arith in q)
-
   pub common-end : n < length k → length s ≤ at + n → common (drop n k) (drop (at + n) s) ≡ 0
-  common-end h e = rw (key-cons h, drop-of-length-le s e)
+  common-end h e = rw (from-cons k n h, drop-of-length-le s e)
 
   two-heads : n < length k → at + n < length s → common (drop n k) (drop (at + n) s) ≡ choose (eqb (getD s (at + n) 0) (getD k n 0)) (suc (common (drop (n + 1) k) (drop (at + (n + 1)) s))) 0
-  two-heads h e = ap (λ (l : List ℕ). common l (drop (at + n) s)) (key-cons h) ∙ ap (λ (l : List ℕ). common (getD k n 0 ∷ drop (n + 1) k) l) (left-cons s at n e)
+  two-heads h e = ap (λ (l : List ℕ). common l (drop (at + n) s)) (from-cons k n h) ∙ ap (λ (l : List ℕ). common (getD k n 0 ∷ drop (n + 1) k) l) (left-cons s at n e)
 
   pub common-off : n < length k → at + n < length s → (getD s (at + n) 0 ≡ getD k n 0 → ⊥) → common (drop n k) (drop (at + n) s) ≡ 0
   common-off h e d = two-heads h e ∙ rw (ne-eqb _ _ d)
