@@ -6,7 +6,7 @@ use answer::Answer;
 use libc::STDERR_FILENO;
 use libc::STDOUT_FILENO;
 use picture::FILE_LENGTH;
-use reading::Found;
+use reading::read_arg;
 use settings::FRAME_LENGTH;
 use settings::Settings;
 ghost use Prim.Native.Nat.{_≤_};
@@ -172,15 +172,6 @@ fn record(sheet: &[u8], image: &[u8], font: &[u8]) {
 
 // The arguments.
 
-// Reads the file that an argument names.
-fn read_arg(i: usize, room: &mut [u8]) -> Found
-    ensures { λ r. ⌜ Counts (r .len) (now (room .exit)) ⌝ }
-{
-    let mut path = io::buffer();
-    let n = os::arg(i, &mut path);
-    reading::read_file(&WHO, &path[..n], room)
-}
-
 // Whether the third argument says that there is no font.
 fn no_font() -> bool {
     let mut word = io::buffer();
@@ -203,7 +194,7 @@ fn with_font(sheet: &[u8], image: &[u8]) {
         return;
     }
     let mut font = [0u8; 4096];
-    let found = read_arg(3, &mut font);
+    let found = read_arg(&WHO, 3, &mut font);
     if found.whole {
         let len = found.len;
         record(sheet, image, &font[..len]);
@@ -213,7 +204,7 @@ fn with_font(sheet: &[u8], image: &[u8]) {
 // Copies a record with the image that is named.
 fn with_image(sheet: &[u8]) {
     let mut image = [0u8; 65537];
-    let found = read_arg(2, &mut image);
+    let found = read_arg(&WHO, 2, &mut image);
     if found.whole {
         let len = found.len;
         with_font(sheet, &image[..len]);
@@ -229,7 +220,7 @@ fn main() {
         return;
     }
     let mut sheet = [0u8; 28153];
-    let found = read_arg(1, &mut sheet);
+    let found = read_arg(&WHO, 1, &mut sheet);
     if found.whole {
         let len = found.len;
         with_image(&sheet[..len]);

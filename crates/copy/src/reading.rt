@@ -22,7 +22,7 @@ fn ended(fd: i32) -> bool {
 }
 
 // Reads a file, as far as there is room.
-pub(crate) fn read_file(who: &[u8], path: &[u8], room: &mut [u8]) -> Found
+fn read_file(who: &[u8], path: &[u8], room: &mut [u8]) -> Found
     ensures { λ r. ⌜ Counts (r .len) (now (room .exit)) ⌝ }
 {
     let fd = os::open_read(path);
@@ -43,4 +43,13 @@ pub(crate) fn read_file(who: &[u8], path: &[u8], room: &mut [u8]) -> Found
     }
     libc::close(fd);
     Found { whole, len }
+}
+
+// Reads the file that an argument names.
+pub(crate) fn read_arg(who: &[u8], i: usize, room: &mut [u8]) -> Found
+    ensures { λ r. ⌜ Counts (r .len) (now (room .exit)) ⌝ }
+{
+    let mut path = io::buffer();
+    let n = os::arg(i, &mut path);
+    read_file(who, &path[..n], room)
 }

@@ -24,7 +24,9 @@ coverSheet = sheet (note (98 ∷ []) [] ∷ note (97 ∷ 98 ∷ []) (51 ∷ []) 
 
 -- what is told: number, place and value; then where the value lies: 1 for the cover, from which byte on, and how many
 abbrev asked : List ℕ → List ℕ → List ℕ → List ℕ
-asked n c k = holderTold n c k .number ∷ holderTold n c k .place ∷ holderTold n c k .value ∷ choose (held n c k .«in_cover») 1 0 ∷ held n c k .from ∷ held n c k .size ∷ []
+asked own cover key =
+    holderTold own cover key .number ∷ holderTold own cover key .place ∷ holderTold own cover key .value
+    ∷ choose (held own cover key .«in_cover») 1 0 ∷ held own cover key .from ∷ held own cover key .size ∷ []
 
 pub examples : List Figure
 examples =

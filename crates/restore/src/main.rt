@@ -99,9 +99,9 @@ fn restore(pins: u8, png: &[u8], path: &[u8]) {
 }
 
 // Reads the picture, with a byte more than every picture has, and restores its strip.
-fn by_names(pins: u8, picture_path: &[u8], strip_path: &[u8]) {
+fn by_names(pins: u8, strip_path: &[u8]) {
     let mut png = [0u8; FILE_LENGTH + 1];
-    let found = reading::read_file(&WHO, picture_path, &mut png);
+    let found = reading::read_arg(&WHO, 2, &mut png);
     if found.whole {
         let len = found.len;
         restore(pins, &png[..len], strip_path);
@@ -118,14 +118,12 @@ fn explain() {
 
 fn main() {
     let mut word = io::buffer();
-    let mut picture_path = io::buffer();
     let mut strip_path = io::buffer();
     let n = os::arg(1, &mut word);
-    let p = os::arg(2, &mut picture_path);
     let s = os::arg(3, &mut strip_path);
     let pins = pins_in(&word[..n]);
     if pins.given & (os::arg_count() == 4) {
-        by_names(pins.pins, &picture_path[..p], &strip_path[..s]);
+        by_names(pins.pins, &strip_path[..s]);
         return;
     }
     explain();

@@ -60,7 +60,7 @@ fn no_keys<'a>(record: &'a [u8], cover: &'a [u8]) {
     ask(record, cover, b"aaaaaaaaaaaaaaaaa");
 }
 
-// Keys and values as long as may be, and a value of any bytes, on the cover of a record without notes.
+// Keys and values as long as may be, and a value of any bytes, on the cover of a record without notes; then two sheets without notes.
 fn wide() {
     let cover =
         b"deed=B-7\npins=00\nwrites=0\naaaaaaaaaaaaaaa=first\naaaaaaaaaaaaaaaa=second\nv=vvvvvvvvvvvvvvvvvvvvvvvvvvvvvvvvvvvvvvvvvvvvvvvvvvvvvvvvvvvvvvvvvvvvvvvvvvvvvvvvvvvvvvvvvvvvvvvvvvvvvvvvvvvvvvvvvvvvvvvv\nbytes=\x00\xff\x0d==\n";
