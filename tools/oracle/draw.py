@@ -30,16 +30,19 @@ def graphics_dot(pins, byte, dot):
     return element_colour(pins, value)
 
 
+def lower_case(pins, byte):
+    """Whether a character is lower case (CR 2): with GM0 = 1 bytes 0 to 31 are."""
+    return bit(pins, "GM0") == 1 and byte < 32
+
+
 def pattern(pins, byte):
-    """The number of a character's pattern."""
-    if bit(pins, "GM0") == 1 and byte & 0x40:
-        return 64 + byte % 32
-    return byte % 64
+    """The number of a character's pattern: of lower case 64 plus the byte, else the low six bits."""
+    return 64 + byte if lower_case(pins, byte) else byte % 64
 
 
 def inverted(pins, byte):
-    """Whether DD6 inverts the character: with GM0 = 0 only."""
-    return bit(pins, "GM0") == 0 and byte & 0x40 != 0
+    """Whether a character is dark on colour: lower case is, and others with DD6 = 1."""
+    return lower_case(pins, byte) or byte & 0x40 != 0
 
 
 def text_dot(pins, font, byte, row, dot):

@@ -1,4 +1,4 @@
-"""Figures to check by: document 01's own, figures of CR 1 counted by hand, and those of the standards that a picture file goes by, held against these modules."""
+"""Figures to check by: document 01's own, figures of CR 1 counted by hand, the case of CR 2 with what it says of the other letters, and those of the standards that a picture file goes by, held against these modules."""
 
 import zlib
 
@@ -62,13 +62,35 @@ def fetched_addresses():
 
 
 def dots():
-    """P10 to P12 and the text figures."""
+    """P10 to P12 and the text figure."""
     yield "P10", drawn(CG1, 0x1B, 0), [0] * 4 + [1] * 4 + [2] * 4 + [3] * 4
     yield "P11", drawn(RG6 + 1, 0xA5, 0), [4, 8, 4, 8, 8, 4, 8, 4]
     yield "P12", drawn(TEXT, 0xB9, 5), [3] * 4 + [8] * 4
     yield "P12", drawn(TEXT, 0xB9, 6), [8] * 4 + [3] * 4
     yield "text 41", drawn(TEXT, 0x41, 0, font_with(1, 0x18)), [0, 0, 0, 8, 8, 0, 0, 0]
-    yield "pins 02 text 61", draw.pattern(0x02, 0x61), 65
+
+
+def shown(pin_byte, byte):
+    """Which pattern a letter shows, and whether inverted."""
+    return draw.pattern(pin_byte, byte), draw.inverted(pin_byte, byte)
+
+
+def lower_case():
+    """CR 2: its case, where lower case begins and ends, dark on colour and exchanged, and that from 32 on all looks as with GM0 = 0."""
+    for byte, said in (
+        (0x01, (65, True)),
+        (0x61, (33, True)),
+        (0x00, (64, True)),
+        (0x1F, (95, True)),
+        (0x20, (32, False)),
+        (0x41, (1, True)),
+    ):
+        yield "pins 02", (byte, shown(0x02, byte)), (byte, said)
+    for pin_byte, said in ((0x02, [0, 0, 0, 8, 8, 0, 0, 0]), (0x06, [8, 8, 8, 0, 0, 8, 8, 8])):
+        yield "lower case", (pin_byte, drawn(pin_byte, 0x01, 0, font_with(65, 0x18))), (pin_byte, said)
+        yield "from 32 on", (pin_byte, drawn(pin_byte, 0x61, 0, font_with(33, 0x18))), (pin_byte, said)
+    for byte in range(32, 128):
+        yield "as with GM0 = 0", (byte, shown(0x02, byte)), (byte, shown(0x00, byte))
 
 
 def refusals():
@@ -167,6 +189,7 @@ def covers():
 CHAPTERS = {
     "document 01": (control_writes, fetched_addresses, dots, refusals, longest_sheet, reports),
     "CR 1": (covers,),
+    "CR 2": (lower_case,),
     "the picture file": (checks, picture_files),
 }
 

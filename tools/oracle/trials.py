@@ -220,10 +220,9 @@ def try_fetch():
 
 
 def draw_font(length):
-    """A marked font with rows of its own for patterns 1 and 65."""
-    font = mark(length)
+    """A font that is marked, by one more from pattern 64 on, so that no two patterns are alike, with a row of its own for pattern 1."""
+    font = bytearray((131 + 5 * i + i // 768) % 256 for i in range(length))
     font[12] = 0x18
-    font[780] = 0xC3
     return font
 
 
@@ -251,7 +250,7 @@ def blocks_lines():
 
 
 def letters_lines():
-    """Text: inverting, exchanging, rows and patterns."""
+    """Text: inverting, exchanging, rows and patterns; then lower case, exchanged by GM1, in orange, its first and last byte, and the byte after."""
     yield dots_line(0, 0x00, 0x41, 0)
     yield dots_line(0, 0x00, 0x01, 0)
     yield dots_line(0, 0x01, 0x41, 0)
@@ -263,6 +262,25 @@ def letters_lines():
     yield dots_line(0, 0x02, 0x21, 0)
     yield dots_line(0, 0x00, 0x21, 0)
     yield dots_line(0, 0x06, 0x61, 0)
+    yield dots_line(0, 0x02, 0x01, 0)
+    yield dots_line(0, 0x06, 0x01, 0)
+    yield dots_line(0, 0x03, 0x01, 0)
+    yield dots_line(0, 0x02, 0x00, 0)
+    yield dots_line(0, 0x02, 0x1F, 0)
+    yield dots_line(0, 0x02, 0x20, 0)
+
+
+def letters_sum(pin_byte, first):
+    """The sum of a frame of sixteen letters, one below the other, each on all its twelve rows."""
+    frame = bytearray(49152)
+    numbers.draw(pin_byte, draw_font(1152), bytes(first + i // 384 for i in range(6144)), frame)
+    return total(frame)
+
+
+def all_letters_line(pin_byte):
+    """All 128 letters under one look, a sum for each sixteen."""
+    sums = "".join(" %d" % letters_sum(pin_byte, first) for first in range(0, 128, 16))
+    return "letters pins %02X, sums" % pin_byte + sums
 
 
 def look_lines(pin_byte, byte):
@@ -298,7 +316,7 @@ def draws_lines():
 
 
 def try_draw():
-    """P10 to P12, blocks and letters, every graphics mode and every text look with either CSS, and refusals."""
+    """P10 to P12, blocks and letters, every graphics mode and every text look with either CSS, all letters under each text look, and refusals."""
     yield dots_line(10, 0x20, 0x1B, 0)
     yield dots_line(11, 0x2F, 0xA5, 0)
     yield from blocks_lines()
@@ -307,6 +325,8 @@ def try_draw():
         yield from look_lines(0x20 + i, 0x1B)
     for i in range(16):
         yield from look_lines(0x00 + i, 0x41)
+    for i in range(16):
+        yield all_letters_line(0x00 + i)
     yield from draws_lines()
 
 

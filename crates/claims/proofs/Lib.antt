@@ -10,5 +10,6 @@ pub mod Felt
 pub mod Chips
 pub mod Copy
 pub mod Cover
+pub mod LowerCase
 pub mod Ascents
 pub mod Unfit

@@ -9,18 +9,25 @@ ghost use Rattle.settings.specs.Modes.{fontSize};
 ghost use Rattle.settings.specs.Refusals.{frameLength};
 ghost use Rattle.pixel.specs.Dots.{oneBit, black};
 ghost use Rattle.pixel.specs.Picture.{picture};
-ghost use Rattle.pixel.specs.Text.{pattern, inverted, letter, block, lit, ink};
+ghost use Rattle.pixel.specs.Text.{lower, pattern, inverted, letter, block, lit, ink};
 ghost use Rattle.frame.specs.Steps.{typed};
 use crate::tables::by_bits;
 use crate::tables::wide;
 use settings::Look;
 
+// Whether a letter is lower case: with GM0 = 1, below 32.
+fn lower(look: Look, b: u8) -> bool
+    ensures { λ r. ⌜ r ≡ lower look b ⌝ }
+{
+    (settings::gm(look) % 2 == 1) & (b < 32)
+}
+
 // Which pattern of the font a letter shows.
 fn pattern(look: Look, b: u8) -> usize
     ensures { λ r. ⌜ r ≡ pattern look b ⌝ }
 {
-    if (settings::gm(look) % 2 == 1) & (b / 64 % 2 == 1) {
-        64 + wide(b % 32)
+    if lower(look, b) {
+        64 + wide(b)
     } else {
         wide(b % 64)
     }
@@ -30,8 +37,8 @@ fn pattern(look: Look, b: u8) -> usize
 fn inverted(look: Look, b: u8) -> usize
     ensures { λ r. ⌜ r ≡ inverted look b ⌝ }
 {
-    if settings::gm(look) % 2 == 1 {
-        return 0;
+    if lower(look, b) {
+        return 1;
     }
     wide(b / 64 % 2)
 }

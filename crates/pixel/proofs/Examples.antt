@@ -1,4 +1,4 @@
--- The dots of text bytes: document 01's figure, and a case for each rule of letters and of Semigraphics, computed from the definitions.
+-- The dots of text bytes: document 01's figure, CR 2's case, and a case for each rule of letters and of Semigraphics, computed from the definitions.
 use Prim.Native.Nat.{ℕ, zero, suc}
 use mathlib.Core.List.{List, [], _∷_, _++_}
 use lib.Dec.{T}
@@ -9,9 +9,9 @@ use Rattle.pixel.specs.Dots.{bit, oneBit}
 use Rattle.pixel.specs.Text.{pattern, inverted, letter, block, lit, ink}
 use Rattle.pixel.specs.Picture.{pixel}
 
--- a font whose pattern 1 has 18 in its first row
+-- a font whose pattern 1 has 18 in its first row, and pattern 65 has 3C
 abbrev font : List ℕ
-font = replicate 12 0 ++ (0x18 ∷ [])
+font = replicate 12 0 ++ (0x18 ∷ []) ++ replicate 767 0 ++ (0x3C ∷ [])
 
 -- the eight dots of a byte on a line, by the pins
 abbrev dotsFrom : ℕ → ℕ → ℕ → ℕ → List ℕ
@@ -29,10 +29,16 @@ examples =
     ∷ figure (dots 0x00 0x01 1) (8 ∷ 8 ∷ 8 ∷ 8 ∷ 8 ∷ 8 ∷ 8 ∷ 8 ∷ [])
     ∷ figure (dots 0x04 0x41 12) (8 ∷ 8 ∷ 8 ∷ 0 ∷ 0 ∷ 8 ∷ 8 ∷ 8 ∷ [])
     ∷ figure (dots 0x01 0x41 0) (7 ∷ 7 ∷ 7 ∷ 8 ∷ 8 ∷ 7 ∷ 7 ∷ 7 ∷ [])
-    -- GM0 = 1: not inverted; with DD6 = 1 the pattern is 64 plus the low five bits
-    ∷ figure (dots 0x02 0x01 0) (8 ∷ 8 ∷ 8 ∷ 0 ∷ 0 ∷ 8 ∷ 8 ∷ 8 ∷ [])
-    ∷ figure (pattern (lookOf 0x02) 0x61 ∷ pattern (lookOf 0x02) 0x41 ∷ pattern (lookOf 0x02) 0x21 ∷ pattern (lookOf 0x00) 0x61 ∷ []) (65 ∷ 65 ∷ 33 ∷ 33 ∷ [])
-    ∷ figure (inverted (lookOf 0x02) 0x61 ∷ inverted (lookOf 0x00) 0x61 ∷ inverted (lookOf 0x00) 0x21 ∷ []) (0 ∷ 1 ∷ 0 ∷ [])
+    -- GM0 = 1, CR 2's case: byte 01 is pattern 65 and byte 61 pattern 33, both inverted
+    ∷ figure (pattern (lookOf 0x02) 0x01 ∷ pattern (lookOf 0x02) 0x61 ∷ []) (65 ∷ 33 ∷ [])
+    ∷ figure (inverted (lookOf 0x02) 0x01 ∷ inverted (lookOf 0x02) 0x61 ∷ []) (1 ∷ 1 ∷ [])
+    -- the first and last byte of lower case, and the byte after; then bytes 1F and 61 with GM0 = 0
+    ∷ figure (pattern (lookOf 0x02) 0x00 ∷ pattern (lookOf 0x02) 0x1F ∷ pattern (lookOf 0x02) 0x20 ∷ pattern (lookOf 0x00) 0x1F ∷ pattern (lookOf 0x00) 0x61 ∷ []) (64 ∷ 95 ∷ 32 ∷ 31 ∷ 33 ∷ [])
+    ∷ figure (inverted (lookOf 0x02) 0x00 ∷ inverted (lookOf 0x02) 0x1F ∷ inverted (lookOf 0x02) 0x20 ∷ inverted (lookOf 0x00) 0x1F ∷ inverted (lookOf 0x00) 0x61 ∷ []) (1 ∷ 1 ∷ 0 ∷ 0 ∷ 1 ∷ [])
+    -- lower case is dark on colour, and GM1 exchanges it; a byte from 32 on looks as it does with GM0 = 0
+    ∷ figure (dots 0x02 0x01 0) (0 ∷ 0 ∷ 8 ∷ 8 ∷ 8 ∷ 8 ∷ 0 ∷ 0 ∷ [])
+    ∷ figure (dots 0x07 0x01 0) (8 ∷ 8 ∷ 7 ∷ 7 ∷ 7 ∷ 7 ∷ 8 ∷ 8 ∷ [])
+    ∷ figure (dots 0x02 0x41 0) (0 ∷ 0 ∷ 0 ∷ 8 ∷ 8 ∷ 0 ∷ 0 ∷ 0 ∷ [])
     -- Semigraphics: bits 3, 2, 1, 0 light top left, top right, bottom left, bottom right, in the colour of bits 6-4
     ∷ figure (dots 0x00 0x98 5 ++ dots 0x00 0x98 6) (1 ∷ 1 ∷ 1 ∷ 1 ∷ 8 ∷ 8 ∷ 8 ∷ 8 ∷ 8 ∷ 8 ∷ 8 ∷ 8 ∷ 8 ∷ 8 ∷ 8 ∷ 8 ∷ [])
     ∷ figure (dots 0x00 0xA4 0 ++ dots 0x00 0xA4 11) (8 ∷ 8 ∷ 8 ∷ 8 ∷ 2 ∷ 2 ∷ 2 ∷ 2 ∷ 8 ∷ 8 ∷ 8 ∷ 8 ∷ 8 ∷ 8 ∷ 8 ∷ 8 ∷ [])

@@ -1,26 +1,27 @@
 -- Text: a letter's pattern lies within the font, and Semigraphics are the same under all pins.
 use Prim.Native.Nat.{ℕ, _+_, _*_, _%_, _≤_, _<_}
-use mathlib.Core.Path.{_≡_}
-use mathlib.Core.Bool.{Bool, true, false, _&&_}
+use mathlib.Core.Path.{_≡_, refl}
+use mathlib.Core.Bool.{Bool, true, false}
 use mathlib.Core.List.{List}
 use native.Mathlib.Omega.{arith}
-use lib.Dec.{eqb}
-use borrow.Author.Tests.{le-ltb}
+use lib.Dec.{eqb, ltb}
+use borrow.Author.Tests.{ltb-true, le-ltb}
 use Rattle.promises.specs.Choose.{choose}
+use Rattle.promises.proofs.Choices.{both-pass}
 use Rattle.settings.specs.declared.Look.{Look}
 use Rattle.settings.specs.Fields.{graphics, gm0}
 use Rattle.settings.specs.Modes.{width, fontSize}
-use Rattle.pixel.specs.Text.{dd6, pattern, block, lit, ink}
+use Rattle.pixel.specs.Text.{lower, pattern, block, lit, ink}
 
-pattern-by : (b : ℕ) (a : Bool) → choose a (64 + b % 32) (b % 64) < 96
-pattern-by b true = omega arith
-pattern-by b false = omega arith
+pattern-by : (b : ℕ) (a : Bool) → (a ≡ true → b < 32) → choose a (64 + b) (b % 64) < 96
+pattern-by b true h = omega (arith, h refl)
+pattern-by b false h = omega arith
 
 module _ (l : Look) where
   -- a row of a pattern is one of the font's bytes
   pub pattern-fits : (b row : ℕ) → row < 12 → pattern l b * 12 + row < fontSize l
   unfolding pattern fontSize
-  pattern-fits b row h = omega (arith, pattern-by b (eqb (gm0 l) 1 && eqb (dd6 b) 1))
+  pattern-fits b row h = omega (arith, pattern-by b (lower l b) (λ t. ltb-true b 32 (both-pass (eqb (gm0 l) 1) (ltb b 32) t .1)))
 
   -- no font is longer than 256 patterns
   pub font-small : fontSize l ≤ 3072

@@ -6,3 +6,4 @@ pub mod Elements
 pub mod Examples
 pub mod Shows
 pub mod Letters
+pub mod LetterDots

@@ -1,6 +1,6 @@
 -- Text (A/G = 0): which of a byte's eight dots are lit on a row of twelve, and in which colour; the others are black.
 use Prim.Native.Nat.{ℕ, _+_, _-_, _*_, _%_}
-use mathlib.Core.Bool.{_&&_}
+use mathlib.Core.Bool.{Bool, _&&_}
 use mathlib.Core.List.{List}
 use lib.Dec.{eqb, ltb}
 use lib.ListN.{getD}
@@ -14,13 +14,17 @@ use Rattle.settings.specs.Fields.{bits, gm1, gm0, css}
 abbrev pub dd6 : ℕ → ℕ
 dd6 b = bits b 6 1
 
--- which pattern of the font: the low six bits; with GM0 = 1 and DD6 = 1, 64 plus the low five
-unfoldable pub pattern : Look → ℕ → ℕ
-pattern l b = choose (eqb (gm0 l) 1 && eqb (dd6 b) 1) (64 + b % 32) (b % 64)
+-- lower case: with GM0 = 1, bytes 0 to 31
+abbrev pub lower : Look → ℕ → Bool
+lower l b = eqb (gm0 l) 1 && ltb b 32
 
--- whether it is inverted, 1 or 0: with GM0 = 0, as DD6 says; with GM0 = 1 it is not
+-- which pattern of the font: of lower case 64 plus the byte, else the low six bits
+unfoldable pub pattern : Look → ℕ → ℕ
+pattern l b = choose (lower l b) (64 + b) (b % 64)
+
+-- whether it is inverted, 1 or 0: lower case is, else as DD6 says
 unfoldable pub inverted : Look → ℕ → ℕ
-inverted l b = choose (eqb (gm0 l) 1) 0 (dd6 b)
+inverted l b = choose (lower l b) 1 (dd6 b)
 
 -- a row of its pattern; inverting exchanges lit and unlit dots, and GM1 = 1 exchanges them once more
 unfoldable pub letter : Look → List ℕ → ℕ → ℕ → ℕ

@@ -1,4 +1,4 @@
-// Tries drawing: the dots of document 01's figures, letters and blocks, each refusal, and whole frames by their sums.
+// Tries drawing: the dots of document 01's figures, letters and blocks, all letters under each text look, each refusal, and whole frames by their sums.
 // Prints a line for each.
 use settings::Look;
 use trial::answered;
@@ -70,8 +70,7 @@ fn dots_of(n: usize, pins: usize, byte: usize, line: usize, font: &[u8])
     drawn(look_of(pins), (byte % 256) as u8, line, font);
 }
 
-// Letters: inverted by DD6, exchanged by GM1, the two colours, other rows.
-// Then patterns: all six bits with GM0 = 0; with GM0 = 1 and DD6 = 1 five bits from 64 on.
+// Letters: inverted by DD6, exchanged by GM1, the two colours, other rows; with GM0 = 1 the same from 32 on.
 fn letters(font: &[u8]) {
     dots_of(0, 0x00, 0x41, 0, font);
     dots_of(0, 0x00, 0x01, 0, font);
@@ -84,6 +83,16 @@ fn letters(font: &[u8]) {
     dots_of(0, 0x02, 0x21, 0, font);
     dots_of(0, 0x00, 0x21, 0, font);
     dots_of(0, 0x06, 0x61, 0, font);
+}
+
+// Lower case: dark on colour, exchanged by GM1, in orange; its first and last byte, and the byte after.
+fn lower_case(font: &[u8]) {
+    dots_of(0, 0x02, 0x01, 0, font);
+    dots_of(0, 0x06, 0x01, 0, font);
+    dots_of(0, 0x03, 0x01, 0, font);
+    dots_of(0, 0x02, 0x00, 0, font);
+    dots_of(0, 0x02, 0x1F, 0, font);
+    dots_of(0, 0x02, 0x20, 0, font);
 }
 
 // Semigraphics 4: the unlit part is black in every colour, and GM does not matter.
@@ -99,12 +108,13 @@ fn blocks(font: &[u8]) {
     dots_of(0, 0x01, 0xFF, 0, font);
 }
 
-// The figures of graphics, then blocks and letters.
+// The figures of graphics, then blocks, letters and lower case.
 fn dots(font: &[u8]) {
     dots_of(10, 0x20, 0x1B, 0, font);
     dots_of(11, 0x2F, 0xA5, 0, font);
     blocks(font);
     letters(font);
+    lower_case(font);
 }
 
 // == Every look: the last line's first dots of one byte, and the sum of a whole frame.
@@ -136,6 +146,50 @@ fn looks(from: usize, byte: usize, font: &[u8], strip: &[u8])
     look(from + 5, byte, font, strip);
     look(from + 6, byte, font, strip);
     look(from + 7, byte, font, strip);
+}
+
+// == All 128 letters under each of the sixteen text looks, by the sums of whole frames.
+
+// The sum of a frame of sixteen letters, one below the other, each on all its twelve rows.
+fn letters_sum(look: Look, first: u8, font: &[u8]) -> usize {
+    let mut strip = [0u8; 6144];
+    let mut frame = [0u8; 49152];
+    lay(&mut strip, first, 0, 384);
+    frame::draw(look, font, &strip, &mut frame);
+    sum(&frame)
+}
+
+// All letters under one look, a sum for each sixteen.
+fn all_letters(pins: usize, font: &[u8]) {
+    let look = look_of(pins);
+    form(
+        b"letters pins %, sums # # # # # # # #\n",
+        &[
+            pins,
+            letters_sum(look, 0x00, font),
+            letters_sum(look, 0x10, font),
+            letters_sum(look, 0x20, font),
+            letters_sum(look, 0x30, font),
+            letters_sum(look, 0x40, font),
+            letters_sum(look, 0x50, font),
+            letters_sum(look, 0x60, font),
+            letters_sum(look, 0x70, font),
+        ],
+    );
+}
+
+// All letters under eight looks.
+fn letters_looks(from: usize, font: &[u8])
+    requires { ⌜ from < 64 ⌝ }
+{
+    all_letters(from, font);
+    all_letters(from + 1, font);
+    all_letters(from + 2, font);
+    all_letters(from + 3, font);
+    all_letters(from + 4, font);
+    all_letters(from + 5, font);
+    all_letters(from + 6, font);
+    all_letters(from + 7, font);
 }
 
 // == Refusals and their order, with the frame held against what it was before.
@@ -187,16 +241,18 @@ fn draws(font: &[u8], strip: &[u8]) {
     looks(0x28, 0x1B, right, strip);
     looks(0x00, 0x41, right, strip);
     looks(0x08, 0x41, right, strip);
+    letters_looks(0x00, right);
+    letters_looks(0x08, right);
     refusals(font, strip);
 }
 
-// A font of varied bytes with rows of its own for patterns 1 and 65, and a strip of varied bytes.
+// A font that is marked, by one more from pattern 64 on, so that no two patterns are alike, with a row of its own for pattern 1; and a
+// strip of varied bytes.
 fn main() {
     let mut font = [0u8; 1153];
     let mut strip = [0u8; 8192];
-    mark(&mut font);
+    lay(&mut font, 131, 5, 768);
     font[12] = 0x18;
-    font[780] = 0xC3;
     lay(&mut strip, 0, 1, 61);
     draws(&font, &strip);
 }
