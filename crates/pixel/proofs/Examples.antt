@@ -21,6 +21,10 @@ dotsFrom p b line (suc n) = dotsFrom p b line n ++ (pixel (lookOf p) font b line
 abbrev dots : ℕ → ℕ → ℕ → List ℕ
 dots p b line = dotsFrom p b line 8
 
+-- which pattern a letter shows, and 1 where it is inverted
+abbrev shown : ℕ → ℕ → List ℕ
+shown p b = pattern (lookOf p) b ∷ inverted (lookOf p) b ∷ []
+
 pub examples : List Figure
 examples =
     -- GM0 = 0: DD6 inverts; a line later the row is empty; GM1 exchanges once more; CSS 1 shows orange
@@ -30,11 +34,10 @@ examples =
     ∷ figure (dots 0x04 0x41 12) (8 ∷ 8 ∷ 8 ∷ 0 ∷ 0 ∷ 8 ∷ 8 ∷ 8 ∷ [])
     ∷ figure (dots 0x01 0x41 0) (7 ∷ 7 ∷ 7 ∷ 8 ∷ 8 ∷ 7 ∷ 7 ∷ 7 ∷ [])
     -- GM0 = 1, CR 2's case: byte 01 is pattern 65 and byte 61 pattern 33, both inverted
-    ∷ figure (pattern (lookOf 0x02) 0x01 ∷ pattern (lookOf 0x02) 0x61 ∷ []) (65 ∷ 33 ∷ [])
-    ∷ figure (inverted (lookOf 0x02) 0x01 ∷ inverted (lookOf 0x02) 0x61 ∷ []) (1 ∷ 1 ∷ [])
+    ∷ figure (shown 0x02 0x01 ++ shown 0x02 0x61) (65 ∷ 1 ∷ 33 ∷ 1 ∷ [])
     -- the first and last byte of lower case, and the byte after; then bytes 1F and 61 with GM0 = 0
-    ∷ figure (pattern (lookOf 0x02) 0x00 ∷ pattern (lookOf 0x02) 0x1F ∷ pattern (lookOf 0x02) 0x20 ∷ pattern (lookOf 0x00) 0x1F ∷ pattern (lookOf 0x00) 0x61 ∷ []) (64 ∷ 95 ∷ 32 ∷ 31 ∷ 33 ∷ [])
-    ∷ figure (inverted (lookOf 0x02) 0x00 ∷ inverted (lookOf 0x02) 0x1F ∷ inverted (lookOf 0x02) 0x20 ∷ inverted (lookOf 0x00) 0x1F ∷ inverted (lookOf 0x00) 0x61 ∷ []) (1 ∷ 1 ∷ 0 ∷ 0 ∷ 1 ∷ [])
+    ∷ figure (shown 0x02 0x00 ++ shown 0x02 0x1F ++ shown 0x02 0x20) (64 ∷ 1 ∷ 95 ∷ 1 ∷ 32 ∷ 0 ∷ [])
+    ∷ figure (shown 0x00 0x1F ++ shown 0x00 0x61) (31 ∷ 0 ∷ 33 ∷ 1 ∷ [])
     -- lower case is dark on colour, and GM1 exchanges it; a byte from 32 on looks as it does with GM0 = 0
     ∷ figure (dots 0x02 0x01 0) (0 ∷ 0 ∷ 8 ∷ 8 ∷ 8 ∷ 8 ∷ 0 ∷ 0 ∷ [])
     ∷ figure (dots 0x07 0x01 0) (8 ∷ 8 ∷ 7 ∷ 7 ∷ 7 ∷ 7 ∷ 8 ∷ 8 ∷ [])

@@ -31,7 +31,7 @@ module _ (l : Look) where
   shows-other b (inl e) = (simp e, simp e)
   shows-other b (inr h) = let high = le-ltb b 32 h in (simp (high, and-false), simp (high, and-false))
 
--- where every bit is the other one, every dot is
+-- where each bit of a byte is the other one, each dot is the other one too
 turned : (on off m : ℕ) → m < 2 → choose (eqb (1 - m) 1) on off ≡ choose (eqb m 1) off on
 turned on off zero h = refl
 turned on off (suc zero) h = refl
