@@ -13,8 +13,8 @@ use Rattle.promises.specs.Choose.{choose}
 use Rattle.promises.specs.Told.{told, done}
 use Rattle.promises.proofs.Choices.{of-both}
 use Rattle.promises.proofs.Orders.{done-when, done-says}
-use Rattle.control.specs.Control.{withBit, isControl, wordAfter, played, firstElsewhere, playOrder, playTold}
-use Rattle.control.proofs.Picks.{Control, in-word}
+use Rattle.control.specs.Control.{isControl, wordAfter, played, firstElsewhere, playOrder, playTold}
+use Rattle.control.proofs.Addresses.{in-word}
 use Rattle.control.proofs.Masks.{with-bit-small}
 
 -- i writes of the list are played, and `now` is the word after them
@@ -35,15 +35,15 @@ module _ (word : ℕ) (writes : List ℕ) where
     rest = rw (add-one, drop-cons writes i 0)
 
     -- one write more
-    pub turn : {k b : ℕ} → Control a k b → Upto word writes (i + 1) (withBit now k b)
-    unfolding played firstElsewhere wordAfter
-    turn {k} {b} p =
+    pub turn : isControl a ≡ true → Upto word writes (i + 1) (wordAfter now a)
+    unfolding played firstElsewhere
+    turn p =
         let e : played word writes ≡ played now (a ∷ drop (i + 1) writes) = u .word-after ∙ ap (played now) rest in
         let f : firstElsewhere writes ≡ i + firstElsewhere (a ∷ drop (i + 1) writes) = u .none-yet ∙ ap (λ (l : List ℕ). i + firstElsewhere l) rest in
         record {
           within = omega arith;
-          word-after = rw (p .bit, p .value) e;
-          none-yet = let g = rw (p .control) at f in omega arith;
+          word-after = e;
+          none-yet = let g = rw p at f in omega arith;
         }
 
     -- the write at i is the first elsewhere

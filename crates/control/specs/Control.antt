@@ -36,10 +36,3 @@ playOrder w writes = check (ltb (firstElsewhere writes) (length writes)) (told 1
 
 unfoldable pub playTold : ℕ → List ℕ → Told
 playTold w writes = firstOf (playOrder w writes) (done (played w writes))
-
--- which bit an address writes, 16 where it is none of the control word's, and what it puts there
-abbrev pub bitOf : ℕ → ℕ
-bitOf a = choose (isControl a) ((a - 0xFFC0) / 2) 16
-
-abbrev pub valueOf : ℕ → ℕ
-valueOf a = choose (isControl a) (a % 2) 0

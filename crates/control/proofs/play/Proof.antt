@@ -1,9 +1,12 @@
 -- `control::play` meets its contract.
 use Prim.Native.Nat.{ℕ, _-_, _^_, _<_}
+use mathlib.Core.Path.{_≡_, sym, _∙_}
+use mathlib.Core.Bool.{true}
 use borrow.Author.Needs.{needs}
+use borrow.Author.Tests.{not-true, not-false}
 use lib.ListN.{length, getD}
 use denote.Ref.{now}
-use Rattle.control.proofs.Picks.{Control, picked, none-picked}
+use Rattle.control.specs.Control.{isControl}
 use Rattle.control.proofs.Plays.{Upto, from-start, turn, stop, at-end}
 use Rattle.control.proofs.play.Statement.{statement}
 use Rattle.control.proofs.play.Tie as tie
@@ -14,32 +17,33 @@ Inv-loop word writes now₀ i₀ now i = (now < 2 ^ 16) × Upto word writes i no
 abbrev μ-loop : tie.MeasureT-loop
 μ-loop word writes now₀ i₀ now i = length writes - i
 
--- the address of this turn's write, and what the choice says of it past the test
-abbrev address : tie.After-pick Inv-loop μ-loop → ℕ
+-- the address of this turn's write
+abbrev address : tie.After-is-control Inv-loop μ-loop → ℕ
 address c = getD (now (c .before .before .before .before .before .args .writes)) (c .before .before .before .loop .i) 0
 
-control : (c : tie.Else1 Inv-loop μ-loop) → Control (address (c .before)) (c .before .pick .result .0) (c .before .pick .result .1)
-control c = picked _ _ _ (c .before .pick .ensures) (c .if1 .left)
+-- past the test it is one of the control word's
+control : (c : tie.Else1 Inv-loop μ-loop) → isControl (address (c .before)) ≡ true
+control c = sym (c .before .is-control .ensures) ∙ not-false _ (c .if1 .left)
 
 loop-holds : tie.Need-loop-holds Inv-loop μ-loop
 loop-holds c = (search needs, from-start _ _)
 
-mul-pick : tie.Need-mul-pick Inv-loop μ-loop
-mul-pick c = search needs
+mul-address : tie.Need-mul-address Inv-loop μ-loop
+mul-address c = search needs
 
-shared-slice-read-pick : tie.Need-shared-slice-read-pick Inv-loop μ-loop
-shared-slice-read-pick c = search needs
+shared-slice-read-address : tie.Need-shared-slice-read-address Inv-loop μ-loop
+shared-slice-read-address c = search needs
 
-pick-requires : tie.Need-pick-requires Inv-loop μ-loop
-pick-requires c κs = search needs
+is-control-requires : tie.Need-is-control-requires Inv-loop μ-loop
+is-control-requires c κs = search needs
 
 returns : tie.Need-returns Inv-loop μ-loop
 returns c =
     stop _ _ _ _ (c .before .before .before .before .loop .inv .1) (c .before .before .before .loop-test .taken)
-    (none-picked (address (c .before)) _ _ (c .before .pick .ensures) (c .if1 .taken))
+    (sym (c .before .is-control .ensures) ∙ not-true _ (c .if1 .taken))
 
-put-requires : tie.Need-put-requires Inv-loop μ-loop
-put-requires c κs = control c .small
+word-after-requires : tie.Need-word-after-requires Inv-loop μ-loop
+word-after-requires c κs = control c
 
 add-i : tie.Need-add-i Inv-loop μ-loop
 add-i c = search needs
@@ -50,7 +54,7 @@ loop-less c = search needs
 loop-again : tie.Need-loop-again Inv-loop μ-loop
 loop-again c = (
   search needs,
-  rw (c .put .ensures)
+  rw (c .word-after .ensures)
       (turn _ _ _ _ (c .before .before .before .before .before .loop .inv .1) (c .before .before .before .before .loop-test .taken)
       (control (c .before))),
 )
@@ -68,11 +72,11 @@ play-spec =
     Inv-loop
     μ-loop
     loop-holds
-    mul-pick
-    shared-slice-read-pick
-    pick-requires
+    mul-address
+    shared-slice-read-address
+    is-control-requires
     returns
-    put-requires
+    word-after-requires
     add-i
     loop-less
     loop-again
