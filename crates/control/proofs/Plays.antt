@@ -20,12 +20,12 @@ use Rattle.control.proofs.Masks.{with-bit-small}
 -- i writes of the list are played, and `now` is the word after them
 pub record Upto (word : ℕ) (writes : List ℕ) (i now : ℕ) : Type 0 where
   pub within : i ≤ length writes
-  pub word-after : played word writes ≡ played now (drop i writes)
+  pub same-end : played word writes ≡ played now (drop i writes)
   pub none-yet : firstElsewhere writes ≡ i + firstElsewhere (drop i writes)
 
 module _ (word : ℕ) (writes : List ℕ) where
   pub from-start : Upto word writes 0 word
-  from-start = record { within = omega arith; word-after = refl; none-yet = omega arith }
+  from-start = record { within = omega arith; same-end = refl; none-yet = omega arith }
 
   module _ (i now : ℕ) (u : Upto word writes i now) (h : i < length writes) where
     abbrev a : ℕ
@@ -34,31 +34,31 @@ module _ (word : ℕ) (writes : List ℕ) where
     rest : drop i writes ≡ a ∷ drop (i + 1) writes
     rest = rw (add-one, drop-cons writes i 0)
 
+    -- the first elsewhere, seen from this write
+    from-here : firstElsewhere writes ≡ i + firstElsewhere (a ∷ drop (i + 1) writes)
+    from-here = u .none-yet ∙ ap (λ (l : List ℕ). i + firstElsewhere l) rest
+
     -- one write more
     pub turn : isControl a ≡ true → Upto word writes (i + 1) (wordAfter now a)
     unfolding played firstElsewhere
-    turn p =
-        let e : played word writes ≡ played now (a ∷ drop (i + 1) writes) = u .word-after ∙ ap (played now) rest in
-        let f : firstElsewhere writes ≡ i + firstElsewhere (a ∷ drop (i + 1) writes) = u .none-yet ∙ ap (λ (l : List ℕ). i + firstElsewhere l) rest in
-        record {
-          within = omega arith;
-          word-after = e;
-          none-yet = let g = rw p at f in omega arith;
-        }
+    turn p = record {
+      within = omega arith;
+      same-end = u .same-end ∙ ap (played now) rest;
+      none-yet = let g = rw p at from-here in omega arith;
+    }
 
     -- the write at i is the first elsewhere
     pub stop : isControl a ≡ false → told 10 i word ≡ playTold word writes
     unfolding playTold firstElsewhere
     stop n =
-        let f : firstElsewhere writes ≡ i + firstElsewhere (a ∷ drop (i + 1) writes) = u .none-yet ∙ ap (λ (l : List ℕ). i + firstElsewhere l) rest in
-        let g : firstElsewhere writes ≡ i = rw n at f ∙ add-zero i in
+        let g : firstElsewhere writes ≡ i = rw n at from-here ∙ add-zero i in
         simp (g, lt-ltb i (length writes) h)
 
   -- past the last write
   pub at-end : (i now : ℕ) → Upto word writes i now → length writes ≤ i → done now ≡ playTold word writes
   unfolding playTold firstElsewhere played
   at-end i now u h =
-      let e : played word writes ≡ now = rw (drop-of-length-le writes h) at (u .word-after) in
+      let e : played word writes ≡ now = rw (drop-of-length-le writes h) at (u .same-end) in
       let f : firstElsewhere writes ≡ i = rw (drop-of-length-le writes h) at (u .none-yet) ∙ add-zero i in
       simp (f, le-ltb i (length writes) h, e)
 
