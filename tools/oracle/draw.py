@@ -1,7 +1,7 @@
-"""From strip to frame: the colour of each pixel in graphics, in text and in Semigraphics 4."""
+"""From strip to frame: the colour of each pixel in graphics, in text, internal and external, and in Semigraphics 4."""
 
 from pins import BLACK, BUFF, GREEN, ORANGE
-from pins import bit, dots, element_bits, is_graphics, width
+from pins import bit, dots, element_bits, is_external, is_graphics, width
 
 # The border, which drawing returns, is told by the pins alone.
 from pins import border
@@ -10,7 +10,23 @@ LINES = 192
 COLUMNS = 256
 FRAME_LENGTH = COLUMNS * LINES
 ROWS = 12
-FONT_LENGTH = 96 * ROWS
+INTERNAL_FONT = 96 * ROWS
+EXTERNAL_FONT = 256 * ROWS
+
+
+def font_length(pins):
+    """How long the font is that text asks for: the external character ROM has 256 patterns (CR 5)."""
+    return EXTERNAL_FONT if is_external(pins) else INTERNAL_FONT
+
+
+def first_not_valid(pins, strip):
+    """The strip index of the first byte that external text calls not valid, of 128 or more (CR 5), or None."""
+    if not is_external(pins):
+        return None
+    for index, byte in enumerate(strip[:LINES * width(pins)]):
+        if byte >= 128:
+            return index
+    return None
 
 
 def element_colour(pins, value):
@@ -31,12 +47,14 @@ def graphics_dot(pins, byte, dot):
 
 
 def lower_case(pins, byte):
-    """Whether a character is lower case (CR 2): with GM0 = 1 bytes 0 to 31 are."""
-    return bit(pins, "GM0") == 1 and byte < 32
+    """Whether a character is lower case (CR 2): with GM0 = 1 bytes 0 to 31 are. External text is as with GM0 = 0 (CR 5)."""
+    return not is_external(pins) and bit(pins, "GM0") == 1 and byte < 32
 
 
 def pattern(pins, byte):
-    """The number of a character's pattern: of lower case 64 plus the byte, else the low six bits."""
+    """The number of a character's pattern: external, the whole byte; of lower case 64 plus the byte, else the low six bits."""
+    if is_external(pins):
+        return byte
     return 64 + byte if lower_case(pins, byte) else byte % 64
 
 

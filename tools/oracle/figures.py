@@ -1,4 +1,4 @@
-"""Figures to check by: document 01's own, figures of CR 1 counted by hand, the case of CR 2 with what it says of the other letters, and those of the standards that a picture file goes by, held against these modules."""
+"""Figures to check by: document 01's own, figures of CR 1 counted by hand, the case of CR 2 with what it says of the other letters, figures of CR 5 counted by hand, and those of the standards that a picture file goes by, held against these modules."""
 
 import zlib
 
@@ -25,9 +25,9 @@ def drawn(pin_byte, byte, line, font=bytes(1152)):
     return list(draw.byte_dots(pin_byte, font, byte, line % 12))
 
 
-def font_with(pattern, row):
+def font_with(pattern, row, length=1152):
     """A font that is empty but for row 0 of one pattern."""
-    font = bytearray(1152)
+    font = bytearray(length)
     font[12 * pattern] = row
     return bytes(font)
 
@@ -93,6 +93,68 @@ def lower_case():
         yield "as with GM0 = 0", (byte, shown(0x02, byte)), (byte, shown(0x00, byte))
 
 
+def external():
+    """CR 5: the pattern is the whole byte, DD6 inverts, GM0 is not read, GM1 exchanges, and CSS 1 is orange; border, W and names."""
+    for pin_byte, byte, said in (
+        (0x10, 0x00, (0, False)),
+        (0x10, 0x3F, (63, False)),
+        (0x10, 0x40, (64, True)),
+        (0x10, 0x7F, (127, True)),
+        (0x12, 0x00, (0, False)),
+        (0x12, 0x61, (97, True)),
+    ):
+        yield "external", (pin_byte, byte, shown(pin_byte, byte)), (pin_byte, byte, said)
+    for pin_byte, lit, unlit in ((0x10, 0, 8), (0x11, 7, 8), (0x12, 0, 8), (0x14, 8, 0), (0x17, 8, 7)):
+        for byte, one, other in ((0x01, lit, unlit), (0x41, unlit, lit)):
+            found = drawn(pin_byte, byte, 0, font_with(byte, 0x18, 3072))
+            yield "external dots", (pin_byte, byte, found), (pin_byte, byte, [other] * 3 + [one] * 2 + [other] * 3)
+    for pin_byte, said in ((0x10, 8), (0x18, 0), (0x19, 7), (0x1D, 8)):
+        yield "external border", (pin_byte, pins.border(pin_byte)), (pin_byte, said)
+    for pin_byte, said in ((0x0F, ("A4", 32)), (0x10, ("EXT", 32)), (0x1F, ("EXT", 32)), (0x30, ("CG1", 16))):
+        yield "external name", (pin_byte, (pins.mode(pin_byte), pins.width(pin_byte))), (pin_byte, said)
+
+
+def with_byte(content, place, byte):
+    """The content with another byte at a place."""
+    found = bytearray(content)
+    found[place] = byte
+    return found
+
+
+def draw_external(strip, font_length=3072, frame_length=49152):
+    """What is told of an external strip, and whether the frame was kept."""
+    frame = bytearray(b"?") * frame_length
+    answer = numbers.draw(0x10, bytes(font_length), strip, frame)
+    return answer, frame == bytearray(b"?") * frame_length
+
+
+def show_external(image):
+    """What both at once tell of an image of external text, and whether strip and frame were kept."""
+    strip, frame = bytearray(b"?") * 6144, bytearray(b"?") * 49152
+    answer = numbers.show(0x0000, 0x10, image, bytes(3072), strip, frame)
+    return answer, strip == bytearray(b"?") * 6144, frame == bytearray(b"?") * 49152
+
+
+def not_valid():
+    """CR 5: 6 asks for 3,072; 15 is the first byte of 128 or more that is drawn, after 8; fetching alone never gives it.
+
+    The window of word 0000 is the first 512 bytes of the image; byte 31 of its last row is fetched first on line 180.
+    """
+    plain, high = bytes(6145), bytes([0x80]) * 6144
+    yield "3,072 bytes", draw_external(plain), ((0, 0, 8), False)
+    yield "1,152 bytes", draw_external(plain, font_length=1152), ((6, 0, 0), True)
+    yield "the last byte", draw_external(with_byte(plain, 6143, 0x80)), ((15, 6143, 0), True)
+    yield "past the last", draw_external(with_byte(plain, 6144, 0xFF)), ((0, 0, 8), False)
+    yield "byte 7F", draw_external(with_byte(plain, 0, 0x7F)), ((0, 0, 8), False)
+    yield "the first of two", draw_external(with_byte(with_byte(plain, 5, 0x80), 3, 0xFF)), ((15, 3, 0), True)
+    yield "8 before 15", draw_external(high, frame_length=49151), ((8, 0, 0), True)
+    image = bytes(4096)
+    yield "shown", show_external(image), ((0, 0, 8), False, False)
+    yield "in the window", show_external(with_byte(image, 511, 0x80)), ((15, 5791, 0), True, True)
+    yield "beside the window", show_external(with_byte(image, 512, 0x80)), ((0, 0, 8), False, False)
+    yield "fetched", numbers.fetch(0x0000, 0x10, with_byte(image, 511, 0x80), bytearray(6144)), (0, 0, 6144)
+
+
 def refusals():
     """Stray pixels, sheets, and pins 64 with R1 set."""
     head = b"deed=K\npins=20\nwrites=6"
@@ -112,7 +174,7 @@ def longest_sheet():
 
 
 def reports():
-    """The report's example, and with pins=10."""
+    """The report's example, and with pins=10, which CR 5 makes status 0."""
     example = (
         b"deed=K-104\npins=20\nwrites=3\nat=FFC1\nat=FFC9\nat=FFD6\n"
         b"plan-note=north corner\ncolour=\n"
@@ -122,7 +184,8 @@ def reports():
         b"annotations=2\nplan-note=north corner\ncolour=\n"
     )
     yield "report pins=10", report.text(example.replace(b"pins=20", b"pins=10")), (
-        b"status=2\nplace=0\ndeed=K-104\nannotations=2\nplan-note=north corner\ncolour=\n"
+        b"status=0\ndeed=K-104\npins=10\ncontrol=0011\nmode=EXT\nstart=0400\n"
+        b"annotations=2\nplan-note=north corner\ncolour=\n"
     )
 
 
@@ -190,6 +253,7 @@ CHAPTERS = {
     "document 01": (control_writes, fetched_addresses, dots, refusals, longest_sheet, reports),
     "CR 1": (covers,),
     "CR 2": (lower_case,),
+    "CR 5": (external, not_valid),
     "the picture file": (checks, picture_files),
 }
 

@@ -4,10 +4,10 @@ from types import SimpleNamespace as Lent
 
 from back import first_stray
 from back import read_back as strip_of
-from draw import FONT_LENGTH, FRAME_LENGTH, LINES, border
+from draw import FRAME_LENGTH, LINES, border, first_not_valid, font_length
 from draw import frame as frame_of
 from fetch import strip as fetched
-from pins import is_external, is_graphics, width
+from pins import is_graphics, width
 from word import bit
 
 IMAGE_LENGTHS = (4096, 8192, 16384, 32768, 65536)
@@ -15,16 +15,16 @@ IMAGE_LENGTHS = (4096, 8192, 16384, 32768, 65536)
 # When each number is given, of what an operation is lent.
 CONDITIONS = {
     1: lambda lent: lent.pins > 63,
-    2: lambda lent: is_external(lent.pins),
     3: lambda lent: not is_graphics(lent.pins),
     4: lambda lent: bit(lent.word, "R1") == 1,
     5: lambda lent: len(lent.image) not in IMAGE_LENGTHS,
-    6: lambda lent: not is_graphics(lent.pins) and len(lent.font) != FONT_LENGTH,
+    6: lambda lent: not is_graphics(lent.pins) and len(lent.font) != font_length(lent.pins),
     7: lambda lent: len(lent.strip) < LINES * width(lent.pins),
     8: lambda lent: len(lent.frame) < FRAME_LENGTH,
     9: lambda lent: first_stray(lent.pins, lent.frame) is not None,
     10: lambda lent: lent.played_number == 10,
     11: lambda lent: lent.sheet_number == 11,
+    15: lambda lent: first_not_valid(lent.pins, drawn_bytes(lent)) is not None,
 }
 
 # The places that are not 0.
@@ -32,13 +32,20 @@ PLACES = {
     9: lambda lent: first_stray(lent.pins, lent.frame),
     10: lambda lent: lent.played_place,
     11: lambda lent: lent.sheet_place,
+    15: lambda lent: first_not_valid(lent.pins, drawn_bytes(lent)),
 }
 
-FETCHING = (1, 2, 4, 5, 7)
-DRAWING = (1, 2, 6, 7, 8)
-BOTH = (1, 2, 4, 5, 6, 7, 8)
+# CR 5: 2 is no longer given, and 15 is checked last by drawing and by both at once, never by fetching alone.
+FETCHING = (1, 4, 5, 7)
+DRAWING = (1, 6, 7, 8, 15)
+BOTH = (1, 4, 5, 6, 7, 8, 15)
 READING_BACK = (1, 3, 7, 8, 9)
-REPORT = (11, 10, 1, 2, 4)
+REPORT = (11, 10, 1, 4)
+
+
+def drawn_bytes(lent):
+    """The bytes that are drawn: those of the strip that is lent, and where an image is lent those that are fetched from it."""
+    return fetched(lent.word, lent.pins, lent.image) if hasattr(lent, "image") else lent.strip
 
 
 def told(order, lent):

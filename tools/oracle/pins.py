@@ -15,8 +15,9 @@ GRAPHICS = (
     ("RG6", 32, 1),
 )
 
-# By GM1, GM0, with A/G = 0.
+# By GM1, GM0, with A/G = 0; with external characters one name for all (CR 5).
 TEXT = ("A1", "A2", "A3", "A4")
+EXTERNAL = "EXT"
 TEXT_WIDTH = 32
 
 GREEN, BUFF, ORANGE, BLACK = 0, 4, 7, 8
@@ -46,6 +47,8 @@ def mode(pins):
     """The name of the mode, as a report says it."""
     if is_graphics(pins):
         return GRAPHICS[gm(pins)][0]
+    if is_external(pins):
+        return EXTERNAL
     return TEXT[bit(pins, "GM0") + 2 * bit(pins, "GM1")]
 
 

@@ -2,6 +2,7 @@
 
 import chips
 import cover
+import draw
 import fetch
 import numbers
 import pins
@@ -172,7 +173,7 @@ def fetches_lines():
 
 
 def lengths_lines():
-    """Image lengths, then strip lengths and bits of the word that alter nothing."""
+    """Image lengths, then strip lengths, of external text too with bytes of 128 or more, and bits that alter nothing."""
     for length in (4095, 4097, 12288, 65535, 4096, 8192):
         yield fetch_line(0x0000, 0x20, length, 8192)
     for length in (16384, 32768):
@@ -181,6 +182,8 @@ def lengths_lines():
     yield fetch_line(0x4000, 0x20, 65536, 3072)
     yield fetch_line(0x4000, 0x00, 65536, 6143)
     yield fetch_line(0x4000, 0x00, 65536, 6144)
+    yield fetch_line(0x4000, 0x10, 65536, 6143)
+    yield fetch_line(0x4000, 0x10, 65536, 6144)
     yield fetch_line(0x4000, 0x2E, 65536, 6143)
     yield fetch_line(0x4000, 0x30, 65536, 8192)
     yield fetch_line(0xEC00, 0x2E, 65536, 8192)
@@ -196,8 +199,8 @@ def strip_sum_lines(control, pin_byte, image_length):
 
 
 def strips_lines():
-    """Text and each graphics mode, then starts 512 bytes before FFFF is passed or before an image's end."""
-    for pin_byte in (0x00, 0x20, 0x22, 0x24, 0x26, 0x28, 0x2A, 0x2C, 0x2E):
+    """Text, internal and external, and each graphics mode, then starts 512 bytes before FFFF is passed or before an image's end."""
+    for pin_byte in (0x00, 0x10, 0x20, 0x22, 0x24, 0x26, 0x28, 0x2A, 0x2C, 0x2E):
         yield from strip_sum_lines(0x4000, pin_byte, 65536)
     yield from strip_sum_lines(0x43F8, 0x20, 65536)
     yield from strip_sum_lines(0x43F8, 0x2E, 65536)
@@ -216,20 +219,57 @@ def try_fetch():
     yield from strips_lines()
 
 
+# == try_valid
+
+
+def check_line(before, pin_byte, byte, first, second, length):
+    """The first bytes of a strip of letters with another byte at two places, checked after an answer."""
+    strip = bytearray(b"A") * 6145
+    strip[first] = strip[second] = byte
+    index = draw.first_not_valid(pin_byte, strip[:length])
+    answer = before if before[0] != 0 or index is None else (15, index, 0)
+    return "pins %02X byte %02X at %d and %d of %d" % (pin_byte, byte, first, second, length) + told(answer)
+
+
+def try_valid():
+    """The first byte that is not valid, at the strip's ends too, none past its end or where the strip is cut short; none but in external text, nor where something was refused."""
+    done = (0, 0, 8)
+    yield check_line(done, 0x10, 0x80, 0, 0, 6145)
+    yield check_line(done, 0x10, 0xFF, 0, 6143, 6145)
+    yield check_line(done, 0x10, 0x80, 6143, 17, 6145)
+    yield check_line(done, 0x1F, 0x80, 3072, 3071, 6144)
+    yield check_line(done, 0x10, 0xB9, 6143, 6143, 6144)
+    yield check_line(done, 0x10, 0x80, 6144, 6143, 6145)
+    yield check_line(done, 0x10, 0xFF, 6144, 6144, 6145)
+    yield check_line(done, 0x10, 0x7F, 0, 6143, 6145)
+    yield check_line(done, 0x10, 0x80, 6143, 6143, 6143)
+    yield check_line(done, 0x10, 0x80, 6143, 16, 17)
+    yield check_line(done, 0x10, 0x80, 16, 17, 16)
+    yield check_line(done, 0x10, 0x80, 0, 1, 0)
+    yield check_line(done, 0x0F, 0x80, 0, 6143, 6145)
+    yield check_line(done, 0x30, 0x80, 0, 3071, 6145)
+    yield check_line((8, 0, 0), 0x10, 0x80, 0, 6143, 6145)
+
+
 # == try_draw
 
 
 def draw_font(length):
-    """A font that is marked, by one more from pattern 64 on, so that no two patterns are alike, with a row of its own for pattern 1."""
+    """A font that is marked, by one more from each 64th pattern on, so that no two patterns are alike, with a row of its own for pattern 1."""
     font = bytearray((131 + 5 * i + i // 768) % 256 for i in range(length))
     font[12] = 0x18
     return font
 
 
+def right_font(pin_byte):
+    """The font that a look asks for."""
+    return draw_font(draw.font_length(pin_byte))
+
+
 def dots_line(figure, pin_byte, byte, line):
     """A strip that has one byte throughout is drawn: the answer, and the dots of the line's first byte."""
     frame = bytearray(49152)
-    answer = numbers.draw(pin_byte, draw_font(1152), bytes([byte]) * 6144, frame)
+    answer = numbers.draw(pin_byte, right_font(pin_byte), bytes([byte]) * 6144, frame)
     wide = 256 // pins.width(pin_byte)
     shown = "".join(" %d" % pixel for pixel in frame[line * 256:line * 256 + wide])
     asked = "%spins %02X byte %02X line %d" % (figure_name(figure), pin_byte, byte, line)
@@ -270,10 +310,25 @@ def letters_lines():
     yield dots_line(0, 0x02, 0x20, 0)
 
 
+def external_lines():
+    """External text: the first and last byte, on each side of DD6, GM0 without effect, exchanged by GM1, in orange; and a byte of 128."""
+    yield dots_line(0, 0x10, 0x01, 0)
+    yield dots_line(0, 0x10, 0x00, 0)
+    yield dots_line(0, 0x10, 0x3F, 11)
+    yield dots_line(0, 0x10, 0x40, 12)
+    yield dots_line(0, 0x10, 0x41, 0)
+    yield dots_line(0, 0x10, 0x7F, 191)
+    yield dots_line(0, 0x12, 0x01, 0)
+    yield dots_line(0, 0x12, 0x61, 0)
+    yield dots_line(0, 0x14, 0x41, 0)
+    yield dots_line(0, 0x11, 0x41, 0)
+    yield dots_line(0, 0x10, 0x80, 0)
+
+
 def letters_sum(pin_byte, first):
     """The sum of a frame of sixteen letters, one below the other, each on all its twelve rows."""
     frame = bytearray(49152)
-    numbers.draw(pin_byte, draw_font(1152), bytes(first + i // 384 for i in range(6144)), frame)
+    numbers.draw(pin_byte, right_font(pin_byte), bytes(first + i // 384 for i in range(6144)), frame)
     return total(frame)
 
 
@@ -283,17 +338,17 @@ def all_letters_line(pin_byte):
     return "letters pins %02X, sums" % pin_byte + sums
 
 
-def look_lines(pin_byte, byte):
+def look_lines(pin_byte, byte, strip):
     """One look: the dots of one byte, and the sum of a whole frame."""
     yield dots_line(0, pin_byte, byte, 191)
     frame = bytearray(49152)
-    answer = numbers.draw(pin_byte, draw_font(1152), vary(8192), frame)
+    answer = numbers.draw(pin_byte, right_font(pin_byte), strip, frame)
     yield "frame pins %02X" % pin_byte + told(answer) + ", sum %d" % total(frame)
 
 
 def draw_line(pin_byte, font_length, strip_length, frame_length):
     """Draws on a marked frame, of buffers as long as told."""
-    font = draw_font(1153)[:font_length]
+    font = draw_font(3073)[:font_length]
     frame = mark(50000)
     answer = numbers.draw(pin_byte, font, vary(8192)[:strip_length], room(frame, frame_length))
     asked = "draw pins %02X font %d strip %d frame %d" % (pin_byte, font_length, strip_length, frame_length)
@@ -301,9 +356,8 @@ def draw_line(pin_byte, font_length, strip_length, frame_length):
 
 
 def draws_lines():
-    """The refusals of drawing in their order."""
+    """The refusals of drawing in their order, of external text last."""
     yield draw_line(0x40, 0, 0, 0)
-    yield draw_line(0x10, 0, 0, 0)
     yield draw_line(0x00, 1151, 0, 0)
     yield draw_line(0x00, 1153, 8192, 50000)
     yield draw_line(0x00, 1152, 6143, 0)
@@ -313,30 +367,49 @@ def draws_lines():
     yield draw_line(0x00, 1152, 6144, 49152)
     yield draw_line(0x20, 0, 3072, 49152)
     yield draw_line(0x30, 1151, 8192, 50000)
+    yield draw_line(0x00, 3072, 8192, 50000)
+    yield draw_line(0x50, 0, 0, 0)
+    yield draw_line(0x10, 0, 0, 0)
+    yield draw_line(0x10, 1152, 8192, 50000)
+    yield draw_line(0x10, 3071, 8192, 50000)
+    yield draw_line(0x10, 3073, 8192, 50000)
+    yield draw_line(0x10, 3072, 6143, 0)
+    yield draw_line(0x10, 3072, 6144, 49151)
+    yield draw_line(0x10, 3072, 6144, 49152)
+    yield draw_line(0x1F, 3072, 8192, 50000)
 
 
 def try_draw():
-    """P10 to P12, blocks and letters, every graphics mode and every text look with either CSS, all letters under each text look, and refusals."""
+    """P10 to P12, blocks, letters and external text, every graphics mode and every text look with either CSS, all letters under each text look, and refusals.
+
+    Of the strip that external looks are drawn from, 6,144 bytes are letters: the bytes past them are not.
+    """
+    low = bytes(i // 61 for i in range(8192))
     yield dots_line(10, 0x20, 0x1B, 0)
     yield dots_line(11, 0x2F, 0xA5, 0)
     yield from blocks_lines()
     yield from letters_lines()
     for i in range(16):
-        yield from look_lines(0x20 + i, 0x1B)
+        yield from look_lines(0x20 + i, 0x1B, vary(8192))
     for i in range(16):
-        yield from look_lines(0x00 + i, 0x41)
+        yield from look_lines(0x00 + i, 0x41, vary(8192))
     for i in range(16):
         yield all_letters_line(0x00 + i)
+    yield from external_lines()
+    for i in range(16):
+        yield from look_lines(0x10 + i, 0x41, low)
+    for i in range(16):
+        yield all_letters_line(0x10 + i)
     yield from draws_lines()
 
 
 # == try_show
 
 
-def show_line(control, pin_byte, *lengths):
+def show_line(control, pin_byte, *lengths, given=vary(65536)):
     """Both at once on marked buffers. The lengths are those of image, font, strip and frame."""
-    image = vary(65536)[:lengths[0]]
-    font = mark(1152)[:lengths[1]]
+    image = given[:lengths[0]]
+    font = mark(3072)[:lengths[1]]
     strip = mark(8192)
     frame = mark(50000)
     answer = numbers.show(control, pin_byte, image, font, room(strip, lengths[2]), room(frame, lengths[3]))
@@ -346,7 +419,7 @@ def show_line(control, pin_byte, *lengths):
 
 
 def shows_lines():
-    """The refusals of both at once in their order."""
+    """The refusals of both at once in their order, of external text last."""
     yield show_line(0x1000, 0x40, 65535, 0, 0, 0)
     yield show_line(0x5000, 0x40, 65536, 1152, 8192, 50000)
     yield show_line(0x5000, 0x64, 65536, 1152, 8192, 50000)
@@ -359,12 +432,41 @@ def shows_lines():
     yield show_line(0x4000, 0x00, 65536, 1152, 6144, 49151)
     yield show_line(0x4000, 0x00, 65536, 1152, 6144, 49152)
     yield show_line(0x4000, 0x20, 65536, 0, 8192, 50000)
+    yield show_line(0x1000, 0x50, 65535, 0, 0, 0)
+    yield show_line(0x0000, 0x10, 65535, 0, 0, 0)
+    yield show_line(0x4000, 0x10, 65536, 1152, 0, 0)
+    yield show_line(0x4000, 0x10, 65536, 3072, 6143, 0)
+    yield show_line(0x4000, 0x10, 65536, 3072, 6144, 49151)
+    yield show_line(0x4000, 0x10, 65536, 3072, 6144, 49152)
+    yield show_line(0x4000, 0x1F, 65536, 3072, 8192, 50000)
 
 
-def pair_line(control, pin_byte):
+def marred_screen_line(control, pin_byte, byte, first, second):
+    """Both at once of an image of letters with another byte at two places, by the font that the look asks for."""
+    image = bytearray(b"A") * 4096
+    image[first] = image[second] = byte
+    marred = "byte %02X at %d and %d, " % (byte, first, second)
+    return marred + show_line(control, pin_byte, 4096, draw.font_length(pin_byte), 6144, 49152, given=image)
+
+
+def marred_screens_lines():
+    """Bytes that external text does not show: in the window, where the first fetch is told, and beside it; with windows elsewhere and one that comes round."""
+    yield marred_screen_line(0x0000, 0x10, 0x80, 0, 511)
+    yield marred_screen_line(0x0000, 0x10, 0xFF, 511, 31)
+    yield marred_screen_line(0x0000, 0x10, 0x80, 511, 511)
+    yield marred_screen_line(0x0000, 0x10, 0x80, 512, 4095)
+    yield marred_screen_line(0x0008, 0x10, 0x80, 511, 1024)
+    yield marred_screen_line(0x0008, 0x10, 0x80, 512, 511)
+    yield marred_screen_line(0x0006, 0x1F, 0x80, 2047, 2048)
+    yield marred_screen_line(0x003E, 0x10, 0x80, 0, 3583)
+    yield marred_screen_line(0x0000, 0x10, 0x7F, 0, 511)
+    yield marred_screen_line(0x0000, 0x00, 0x80, 0, 511)
+
+
+def pair_line(control, pin_byte, image):
     """An ordinary pair of modes: the sums of strip and frame."""
     strip, frame = bytearray(192 * pins.width(pin_byte)), bytearray(49152)
-    answer = numbers.show(control, pin_byte, vary(65536), mark(1152), strip, frame)
+    answer = numbers.show(control, pin_byte, image, mark(draw.font_length(pin_byte)), strip, frame)
     asked = "show word %04X pins %02X" % (control, pin_byte)
     return asked + told(answer) + ", strip sum %d, frame sum %d" % (total(strip), total(frame))
 
@@ -374,10 +476,15 @@ PAIRS = ((0, 0x00), (1, 0x20), (1, 0x22), (2, 0x24), (3, 0x26), (4, 0x28), (5, 0
 
 
 def try_show():
-    """Both at once: refusals, and the ordinary pairs of modes."""
+    """Both at once: refusals, bytes that are not valid, the ordinary pairs of modes, and external text.
+
+    Of the image that external text is shown from, the window's 512 bytes are letters: bytes beside it are not.
+    """
     yield from shows_lines()
+    yield from marred_screens_lines()
     for mode, pin_byte in PAIRS:
-        yield pair_line(0x4000 + mode, pin_byte)
+        yield pair_line(0x4000 + mode, pin_byte, vary(65536))
+    yield pair_line(0x4000, 0x10, tell(65536, 5))
 
 
 # == try_back
@@ -508,6 +615,7 @@ REPORTED = (
     b"deed=K\npins=10\nwrites=1\nat=FFD9\n",
     b"deed=K\npins=30\nwrites=1\nat=FFD3\n",
     b"deed=K\npins=06\nwrites=0\n",
+    b"deed=K\npins=1F\nwrites=0\n",
     b"deed=K\npins=2F\nwrites=0\n",
     b"",
     b"deed=k\n",
@@ -525,6 +633,7 @@ REPORTED_AFTER = (
     (b"deed=K\npins=00\nwrites=0\n", 6, 0),
     (b"deed=K\npins=20\nwrites=0\na=b\n", 9, 49152),
     (b"deed=K\npins=20\nwrites=0\na=b\n", 11, 7),
+    (b"deed=K\npins=10\nwrites=0\na=b\n", 15, 5791),
     (b"deed=K\npins=40\nwrites=0\na=b\n", 5, 0),
     (b"deed=k\n", 5, 0),
 )
@@ -748,6 +857,7 @@ def try_lookup():
 TRIALS = {
     "try_control": try_control,
     "try_fetch": try_fetch,
+    "try_valid": try_valid,
     "try_draw": try_draw,
     "try_show": try_show,
     "try_back": try_back,

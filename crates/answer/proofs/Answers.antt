@@ -1,11 +1,12 @@
 -- Laws of answers: an answer is known by what is told of it.
 use mathlib.Core.Path.{_≡_, refl, sym, ap, _∙_}
+use native.Mathlib.Omega.{arith}
 use lib.Dec.{eqb}
 use Rattle.promises.specs.Choose.{choose}
 use Rattle.promises.specs.Told.{Told}
-use Rattle.answer.specs.declared.Unfit.the-variants.{PinsAbove, External, TextBack, FastRate, ImageLength, FontLength, ShortStrip, ShortFrame}
+use Rattle.answer.specs.declared.Unfit.the-variants.{PinsAbove, TextBack, FastRate, ImageLength, FontLength, ShortStrip, ShortFrame}
 use Rattle.answer.specs.declared.Later.the-variants.{OtherChip, ShortDestination, NoKey}
-use Rattle.answer.specs.declared.Spot.the-variants.{Stray, BrokenSheet, NoPicture}
+use Rattle.answer.specs.declared.Spot.the-variants.{Stray, BrokenSheet, NoPicture, NotValid}
 use Rattle.answer.specs.declared.Answer.{Answer}
 use Rattle.answer.specs.declared.Answer.the-variants.{Done, Unfit as ByUnfit, Later as ByLater, At, Elsewhere}
 use Rattle.answer.specs.Told.{toldOf}
@@ -15,7 +16,6 @@ ofTold : Told → Answer
 ofTold t =
     choose (eqb (t .number) 0) (Done (t .value))
     (choose (eqb (t .number) 1) (ByUnfit PinsAbove)
-    (choose (eqb (t .number) 2) (ByUnfit External)
     (choose (eqb (t .number) 3) (ByUnfit TextBack)
     (choose (eqb (t .number) 4) (ByUnfit FastRate)
     (choose (eqb (t .number) 5) (ByUnfit ImageLength)
@@ -27,13 +27,13 @@ ofTold t =
     (choose (eqb (t .number) 11) (At BrokenSheet (t .place))
     (choose (eqb (t .number) 12) (ByLater NoKey)
     (choose (eqb (t .number) 13) (ByLater OtherChip)
-    (choose (eqb (t .number) 14) (ByLater ShortDestination) (At NoPicture (t .place))))))))))))))))
+    (choose (eqb (t .number) 14) (ByLater ShortDestination)
+    (choose (eqb (t .number) 15) (At NotValid (t .place)) (At NoPicture (t .place))))))))))))))))
 
 back : (a : Answer) → ofTold (toldOf a) ≡ a
 unfolding ofTold
 back (Done v) = refl
 back (ByUnfit PinsAbove) = refl
-back (ByUnfit External) = refl
 back (ByUnfit TextBack) = refl
 back (ByUnfit FastRate) = refl
 back (ByUnfit ImageLength) = refl
@@ -46,7 +46,16 @@ back (ByLater NoKey) = refl
 back (At Stray p) = refl
 back (At BrokenSheet p) = refl
 back (At NoPicture p) = refl
+back (At NotValid p) = refl
 back (Elsewhere p w) = refl
+
+-- no answer is told by 2: that number is no longer given
+pub not-two : (a : Answer) → toldOf a .number ≡ 2 → ⊥
+unfolding ofTold
+not-two a e =
+    let x : ofTold (toldOf a) ≡ At NoPicture (toldOf a .place) = simp e in
+    let y : toldOf a .number ≡ 28 = ap (λ (b : Answer). toldOf b .number) (sym (back a) ∙ x) in
+    omega arith
 
 -- two answers that are told alike are one
 pub told-alike : {a b : Answer} → toldOf a ≡ toldOf b → a ≡ b

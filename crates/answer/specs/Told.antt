@@ -1,19 +1,18 @@
--- The numbers a clerk sees: what document 01's table, and document 02 after it, tells of each answer, a line for each case; 28 is the house's.
+-- The numbers a clerk sees: what document 01's table, and document 02 after it, tells of each answer, a line for each case; 2 is no longer given, and 28 is the house's.
 use Prim.Native.Nat.{ℕ}
 use Rattle.promises.specs.Told.{Told, told, done, refused}
 use Rattle.answer.specs.declared.Unfit.{Unfit}
-use Rattle.answer.specs.declared.Unfit.the-variants.{PinsAbove, External, TextBack, FastRate, ImageLength, FontLength, ShortStrip, ShortFrame}
+use Rattle.answer.specs.declared.Unfit.the-variants.{PinsAbove, TextBack, FastRate, ImageLength, FontLength, ShortStrip, ShortFrame}
 use Rattle.answer.specs.declared.Later.{Later}
 use Rattle.answer.specs.declared.Later.the-variants.{OtherChip, ShortDestination, NoKey}
 use Rattle.answer.specs.declared.Spot.{Spot}
-use Rattle.answer.specs.declared.Spot.the-variants.{Stray, BrokenSheet, NoPicture}
+use Rattle.answer.specs.declared.Spot.the-variants.{Stray, BrokenSheet, NoPicture, NotValid}
 use Rattle.answer.specs.declared.Answer.{Answer}
 use Rattle.answer.specs.declared.Answer.the-variants.{Done, Unfit as ByUnfit, Later as ByLater, At, Elsewhere}
 
 -- by settings and lengths
 abbrev pub unfitNumber : Unfit → ℕ
 unfitNumber PinsAbove = 1
-unfitNumber External = 2
 unfitNumber TextBack = 3
 unfitNumber FastRate = 4
 unfitNumber ImageLength = 5
@@ -32,6 +31,7 @@ abbrev pub spotNumber : Spot → ℕ
 spotNumber Stray = 9
 spotNumber BrokenSheet = 11
 spotNumber NoPicture = 28
+spotNumber NotValid = 15
 
 abbrev pub toldOf : Answer → Told
 toldOf (Done v) = done v

@@ -6,7 +6,6 @@ ghost use Rattle.answer.specs.Told.{unfitNumber, laterNumber, spotNumber
 // Refusals by settings and lengths; none names a place.
 pub enum Unfit {
     PinsAbove,
-    External,
     TextBack,
     FastRate,
     ImageLength,
@@ -30,6 +29,8 @@ pub enum Spot {
     BrokenSheet,
     // The index of the first byte that differs from the picture that a file's pixels make.
     NoPicture,
+    // The strip index of the first byte that external text does not show.
+    NotValid,
 }
 
 // Done with its value, or refused: each case holds what document 01 has told of it.
@@ -48,7 +49,6 @@ fn unfit_number(u: Unfit) -> u8
 {
     match u {
         Unfit::PinsAbove => 1,
-        Unfit::External => 2,
         Unfit::TextBack => 3,
         Unfit::FastRate => 4,
         Unfit::ImageLength => 5,
@@ -75,6 +75,7 @@ fn spot_number(s: Spot) -> u8
         Spot::Stray => 9,
         Spot::BrokenSheet => 11,
         Spot::NoPicture => 28,
+        Spot::NotValid => 15,
     }
 }
 

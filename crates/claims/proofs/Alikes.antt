@@ -22,20 +22,22 @@ use Rattle.control.specs.Control.{withBit}
 use Rattle.counter.specs.declared.Counter.{Counter}
 use Rattle.counter.specs.Counter.{start, lineStart, bytesOn, addressOf}
 use Rattle.counter.proofs.Shifts.{bytes-by-v, clear-by-v}
-use Rattle.strip.specs.Fetch.{imagePlace, fetchPlace, fetchTold, stripAfter}
+use Rattle.strip.specs.Fetch.{imagePlace, fetchPlace, fetchedByte, fetchTold, stripAfter}
 use Rattle.pixel.specs.Graphics.{count, element, graphic}
 use Rattle.pixel.specs.Text.{pattern, inverted, letter, block, lit, ink}
 use Rattle.pixel.specs.Picture.{pixel, owner, dot, picture}
+use Rattle.valid.specs.Valid.{firstNotValid}
+use Rattle.valid.proofs.Valids.{same-not-valid}
 use Rattle.frame.specs.Draw.{drawTold, frameAfter}
 use Rattle.screen.specs.Show.{showTold, stripShown, frameShown}
 use Rattle.back.specs.Read.{values, readByte}
 use Rattle.back.specs.Stray.{shows, leftmost, stray, firstStray}
 use Rattle.back.specs.Back.{backPixels, backTold, stripBack}
 
--- of the pins: whether they are above 63, whether they ask for external characters, A/G, GM2-GM0 and CSS
+-- of the pins: whether they are above 63, whether the text is external, A/G, GM2-GM0 and CSS
 pub record SameLook (l m : Look) : Type 0 where
   pub above : ltb 63 (l .pins) ≡ ltb 63 (m .pins)
-  pub outside : not (graphics l) && external l ≡ not (graphics m) && external m
+  pub outside : external l ≡ external m
   pub mode : graphics l ≡ graphics m
   pub number : gm l ≡ gm m
   pub colours : css l ≡ css m
@@ -62,11 +64,15 @@ module _ {l m : Look} (e : SameLook l m) where
   -- drawing
   picture-alike : (font strip : List ℕ) (k : ℕ) → picture l font strip k ≡ picture m font strip k
   unfolding picture pixel owner dot graphic element dots lit letter pattern inverted block ink
-  picture-alike font strip k = rw (width-alike, e .mode, e .number, e .colours, first, zeroth)
+  picture-alike font strip k = rw (width-alike, e .outside, e .mode, e .number, e .colours, first, zeroth)
+
+  firstNotValid-alike : (byte : ℕ → ℕ) → firstNotValid l byte ≡ firstNotValid m byte
+  unfolding firstNotValid
+  firstNotValid-alike byte = rw (width-alike, e .outside)
 
   pub drawTold-alike : (font strip frame : List ℕ) → drawTold l font strip frame ≡ drawTold m font strip frame
   unfolding drawTold fontSize
-  drawTold-alike font strip frame = rw (border-alike, width-alike, e .above, e .outside, e .mode)
+  drawTold-alike font strip frame = rw (firstNotValid-alike (λ (k : ℕ). getD strip k 0), border-alike, width-alike, e .above, e .outside, e .mode)
 
   pub frameAfter-alike : (font strip frame : List ℕ) → frameAfter l font strip frame ≡ frameAfter m font strip frame
   unfolding frameAfter
@@ -117,7 +123,7 @@ module _ {s t : Settings} (e : SameSettings s t) where
 
   pub fetchTold-alike : (image strip : List ℕ) → fetchTold s image strip ≡ fetchTold t image strip
   unfolding fetchTold
-  fetchTold-alike image strip = rw (width-alike (e .look), e .look .above, e .look .outside, e .rate)
+  fetchTold-alike image strip = rw (width-alike (e .look), e .look .above, e .rate)
 
   pub stripAfter-alike : (image strip : List ℕ) → stripAfter s image strip ≡ stripAfter t image strip
   unfolding stripAfter
@@ -128,7 +134,11 @@ module _ {s t : Settings} (e : SameSettings s t) where
   module _ (image font strip frame : List ℕ) where
     pub showTold-alike : showTold s image font strip frame ≡ showTold t image font strip frame
     unfolding showTold fontSize
-    showTold-alike = rw (border-alike (e .look), width-alike (e .look), e .look .above, e .look .outside, e .look .mode, e .rate)
+    showTold-alike =
+        let bytes : firstNotValid (s .look) (fetchedByte s image) ≡ firstNotValid (t .look) (fetchedByte t image) =
+        firstNotValid-alike (e .look) (fetchedByte s image)
+        ∙ same-not-valid (t .look) (fetchedByte s image) (fetchedByte t image) (λ k _. ap (λ (p : ℕ). getD image p 0) (fetchPlace-alike (length image) k)) in
+        rw (bytes, border-alike (e .look), width-alike (e .look), e .look .above, e .look .outside, e .look .mode, e .rate)
 
     pub stripShown-alike : stripShown s image font strip frame ≡ stripShown t image font strip frame
     unfolding stripShown

@@ -185,7 +185,7 @@ decode-demand κs png frame z out p = (
       (λ no. p .1 ∙ read-refused (now png) (now frame) (λ e. no (rw (p .0) e))),
 )
 
--- the settings of a sheet: 11, 10, 1, 2, 4; a refusal gives none. `settings_of` is lent no buffer to write to
+-- the settings of a sheet: 11, 10, 1, 4; a refusal gives none. `settings_of` is lent no buffer to write to
 pub settings-demand : (κs : Lfts 1) (sheet : Lent) (z : Intake) → TakesIn κs sheet z
     → Ordered (toldOf (z .answer)) (intakeOrder (now sheet)) 0 × ((toldOf (z .answer) .number ≡ 0 → ⊥) → z .settings ≡ noSettings)
 unfolding intakeTold

@@ -230,7 +230,7 @@ valid-read κs s z f valid e p =
 pub longest-sheet : ((κs : Lfts 1) (s : Lent) (z : Sheet) → Reads κs s z → Done (z .answer) → length (now s) ≤ 28152) × ((s : List ℕ) × (acceptedSheet s ≡ true) × (length s ≡ 28152))
 longest-sheet = ((λ κs s z p d. none-longer (now s) (done-accepted s κs z p d)), one-as-long)
 
--- Semigraphics: a byte of 128 or more is drawn alike under all pins of text, with any font.
+-- Semigraphics: a byte of 128 or more is drawn alike under all pins of text, with any font; external text refuses it.
 pub semigraphics-alike : (l m : Look) (font list : List ℕ) → graphics l ≡ false → graphics m ≡ false → (b line t : ℕ) → 128 ≤ b → pixel l font b line t ≡ pixel m list b line t
 unfolding pixel
 semigraphics-alike l m font list g h b line t k =

@@ -1,26 +1,35 @@
 -- Demand 3. "Only bytes in the window are felt: images that agree at the fetched places give the same answer, strip and frame; where they
 -- differ at a fetched place, each fetch of it differs in the strip and, in graphics, in its pixels, and nothing else does."
+-- CR 5 "lets a refusal depend on fetched bytes and on nothing else in the image; its second half reads for two accepted images."
 -- Stated once over all settings, of any two calls that the contract of `show` allows, with the same settings, font and buffers.
 use Prim.Native.Nat.{ℕ, _<_, _≤_}
-use mathlib.Core.Path.{_≡_, sym, ap, _∙_}
+use mathlib.Core.Path.{_≡_, refl, sym, ap, _∙_}
 use mathlib.Core.Bool.{true}
 use mathlib.Core.List.{List}
 use mathlib.Core.Logic.{_↔_}
 use contract.Lifetimes.{Lfts}
 use denote.Ref.{now}
 use lib.ListN.{length, getD}
+use Rattle.promises.specs.Told.{done}
+use Rattle.promises.specs.Order.{Check, firstOf, NoneHolds}
 use Rattle.promises.specs.Written.{Bytes}
+use Rattle.promises.proofs.Orders.{done-when}
 use Rattle.answer.specs.declared.Answer.{Answer}
+use Rattle.answer.specs.Told.{toldOf}
 use Rattle.answer.proofs.Answers.{one-answer}
 use Rattle.settings.specs.declared.Settings.{Settings}
 use Rattle.settings.specs.Fields.{graphics}
+use Rattle.settings.specs.Modes.{border}
 use Rattle.settings.specs.Refusals.{stripLength, frameLength}
-use Rattle.strip.specs.Fetch.{fetchPlace, Fetched}
+use Rattle.strip.specs.Fetch.{fetchPlace, fetchedByte, Fetched}
 use Rattle.strip.proofs.Windows.{strip-byte, same-told, same-strip}
 use Rattle.pixel.specs.Picture.{owner, picture}
 use Rattle.pixel.proofs.Owners.{owner-below, depends}
 use Rattle.pixel.proofs.Shows.{shows}
-use Rattle.screen.proofs.Shows.{same-shown}
+use Rattle.frame.specs.Draw.{drawBytes}
+use Rattle.frame.proofs.Draws.{same-bytes}
+use Rattle.screen.specs.Show.{showLengths}
+use Rattle.screen.proofs.Shows.{same-shown, told-fetched}
 use Rattle.claims.proofs.Calls.{Lent, Fetches, Shows}
 use Rattle.claims.proofs.Demand1.{fetch-demand, show-demand}
 use Rattle.claims.proofs.Demand2.{Done, shown-byte, shown-pixel}
@@ -58,7 +67,7 @@ module _
     (z z′ : Answer) (bytes bytes′ pixels pixels′ : List ℕ)
     (p : Shows κs s image font strip frame z bytes pixels) (q : Shows κs′ s image′ font′ strip′ frame′ z′ bytes′ pixels′)
   where
-    -- First half: images that agree at the fetched places give the same answer, strip and frame.
+    -- First half: images that agree at the fetched places give the same answer, strip and frame; so a refusal too depends on nothing else in them.
     pub window : ((a : ℕ) → Fetched s (length (now image)) a → getD (now image) a 0 ≡ getD (now image′) a 0) → (z ≡ z′) × (bytes ≡ bytes′) × (pixels ≡ pixels′)
     window agree =
         let e = same-shown s (now image) (now image′) (now font) (now strip) (now frame) long agree in (
@@ -67,7 +76,7 @@ module _
           p .1 .1 ∙ e .2 ∙ rw (same-font, same-strips, same-frames) (sym (q .1 .1)),
         )
 
-    -- Second half, where both calls are done. The place of fetch k is the same in both images.
+    -- Second half, of two accepted images: both calls are done. The place of fetch k is the same in both images.
     module _ (d : Done z) (d′ : Done z′) where
       byte : (k : ℕ) → k < stripLength (s .look) → getD bytes k 0 ≡ getD (now image) (fetchPlace s (length (now image)) k) 0
       byte = shown-byte κs s image font strip frame z bytes pixels p d
@@ -109,3 +118,33 @@ module _
         let a = show-demand κs s image font strip frame z bytes pixels p in
         let b = show-demand κs′ s image′ font′ strip′ frame′ z′ bytes′ pixels′ q in
         (λ k h. a .1 .past k h ∙ rw same-strips (sym (b .1 .past k h)), λ n h. a .2 .past n h ∙ rw same-frames (sym (b .2 .past n h)))
+
+-- 15 is told, at this place.
+abbrev pub Fifteen : Answer → ℕ → Type 0
+Fifteen z k = (toldOf z .number ≡ 15) × (toldOf z .place ≡ k)
+
+-- no length that is lent to both at once is refused
+abbrev pub LengthsPass : Settings → Lent → Lent → Lent → Lent → Type 0
+LengthsPass s image font strip frame = NoneHolds (showLengths s (length (now image)) (length (now font)) (length (now strip)) (length (now frame)))
+
+-- then what is told is what is told of the fetched bytes
+pub told-by-bytes : (s : Settings) (κs : Lfts 4) (image font strip frame : Lent) (z : Answer) (bytes pixels : List ℕ) → Shows κs s image font strip frame z bytes pixels
+    → LengthsPass s image font strip frame → toldOf z ≡ firstOf (drawBytes (s .look) (fetchedByte s (now image))) (done (border (s .look)))
+told-by-bytes s κs image font strip frame z bytes pixels p none =
+    p .0
+    ∙ told-fetched s (now image) (now font) (now strip) (now frame)
+    (done-when (done (border (s .look))) refl (showLengths s (length (now image)) (length (now font)) (length (now strip)) (length (now frame))) tt .1 none)
+
+-- Whether 15 is told, and its place, depends on nothing but the fetched bytes: two calls with the same settings, of which no length is
+-- refused, are told it alike where each fetch fetches the same byte in both, whatever else is in images, fonts and buffers.
+pub fifteen-felt : (s : Settings) (κs κs′ : Lfts 4) (image image′ font font′ strip strip′ frame frame′ : Lent) (z z′ : Answer) (bytes bytes′ pixels pixels′ : List ℕ)
+    → Shows κs s image font strip frame z bytes pixels → Shows κs′ s image′ font′ strip′ frame′ z′ bytes′ pixels′
+    → LengthsPass s image font strip frame → LengthsPass s image′ font′ strip′ frame′
+    → ((k : ℕ) → k < stripLength (s .look) → fetchedByte s (now image) k ≡ fetchedByte s (now image′) k)
+    → (k : ℕ) → Fifteen z k ↔ Fifteen z′ k
+fifteen-felt s κs κs′ image image′ font font′ strip strip′ frame frame′ z z′ bytes bytes′ pixels pixels′ p q none none′ same k =
+    let e : toldOf z ≡ toldOf z′ =
+    told-by-bytes s κs image font strip frame z bytes pixels p none
+    ∙ ap (λ (cs : List Check). firstOf cs (done (border (s .look)))) (same-bytes (s .look) (fetchedByte s (now image)) (fetchedByte s (now image′)) same)
+    ∙ sym (told-by-bytes s κs′ image′ font′ strip′ frame′ z′ bytes′ pixels′ q none′) in
+    (λ f. rw e at f, λ f. rw e f)

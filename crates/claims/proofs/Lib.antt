@@ -11,5 +11,6 @@ pub mod Chips
 pub mod Copy
 pub mod Cover
 pub mod LowerCase
+pub mod External
 pub mod Ascents
 pub mod Unfit

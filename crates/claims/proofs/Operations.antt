@@ -8,6 +8,7 @@ use Rattle.settings.proofs.Unique as settings
 use Rattle.control.proofs.Unique as control
 use Rattle.counter.proofs.Unique as counter
 use Rattle.strip.proofs.Unique as strip
+use Rattle.valid.proofs.Unique as valid
 use Rattle.frame.proofs.Unique as frame
 use Rattle.screen.proofs.Unique as screen
 use Rattle.back.proofs.Unique as back
@@ -33,6 +34,7 @@ operations =
     ∷ fixed settings.video-mode-fixes
     ∷ fixed settings.offset-fixes
     ∷ fixed settings.graphics-fixes
+    ∷ fixed settings.external-fixes
     ∷ fixed settings.gm-fixes
     ∷ fixed settings.css-fixes
     ∷ fixed settings.width-fixes
@@ -41,7 +43,6 @@ operations =
     ∷ fixed settings.mode-name-fixes
     ∷ fixed settings.strip-length-fixes
     ∷ fixed settings.pins-above-fixes
-    ∷ fixed settings.external-text-fixes
     ∷ fixed settings.text-back-fixes
     ∷ fixed settings.fast-rate-fixes
     ∷ fixed settings.image-length-fixes
@@ -54,6 +55,7 @@ operations =
     ∷ fixed counter.advance-fixes
     ∷ fixed counter.clear-fixes
     ∷ fixed strip.fetch-fixes
+    ∷ fixed valid.not-valid-fixes
     ∷ fixed frame.draw-fixes
     ∷ fixed screen.show-fixes
     ∷ fixed back.read-back-fixes
@@ -102,6 +104,7 @@ pub named : map (λ o. o .operation .key) operations
     ∷ "settings::video_mode"
     ∷ "settings::offset"
     ∷ "settings::graphics"
+    ∷ "settings::external"
     ∷ "settings::gm"
     ∷ "settings::css"
     ∷ "settings::width"
@@ -110,7 +113,6 @@ pub named : map (λ o. o .operation .key) operations
     ∷ "settings::mode_name"
     ∷ "settings::strip_length"
     ∷ "settings::pins_above"
-    ∷ "settings::external_text"
     ∷ "settings::text_back"
     ∷ "settings::fast_rate"
     ∷ "settings::image_length"
@@ -123,6 +125,7 @@ pub named : map (λ o. o .operation .key) operations
     ∷ "counter::Counter::advance"
     ∷ "counter::Counter::clear"
     ∷ "strip::fetch"
+    ∷ "valid::not_valid"
     ∷ "frame::draw"
     ∷ "screen::show"
     ∷ "back::read_back"

@@ -1,18 +1,19 @@
 -- "Versions we would send back" (document 01): five tools that are unfit, each ruled out by the contracts, for every operation that it concerns.
-use Prim.Native.Nat.{ℕ, _+_, _-_, _*_, _/_, _%_, _<_}
+use Prim.Native.Nat.{ℕ, _+_, _-_, _*_, _/_, _%_, _<_, _≤_}
 use mathlib.Core.Path.{_≡_, refl, sym, ap, _∙_}
 use mathlib.Core.Bool.{true, false}
 use mathlib.Core.List.{List, [], _∷_, _++_}
-use mathlib.Core.Logic.{_↔_}
+use mathlib.Core.Logic.{_↔_, ⊎-elim}
 use native.Mathlib.Omega.{arith}
 use contract.Lifetimes.{Lfts}
 use denote.Ref.{now}
-use lib.ListN.{length, getD, take, set, replicate, length-set, length-replicate, getD-replicate}
+use lib.ListN.{length, getD, take, set, replicate, length-set, length-replicate, getD-replicate, List·getD-eq-default}
 use lib.Seq.{getD-set-same, getD-set-other}
 use borrow.Author.Tests.{le-ltb}
 use Rattle.promises.specs.Told.{Told, done}
 use Rattle.promises.specs.Order.{NoneHolds}
 use Rattle.promises.specs.Written.{Bytes}
+use Rattle.promises.proofs.Fills.{lt-or-ge}
 use Rattle.promises.proofs.Orders.{done-when}
 use Rattle.promises.specs.First.{firstWhere}
 use Rattle.promises.proofs.Firsts.{first-none}
@@ -24,13 +25,14 @@ use Rattle.settings.specs.Modes.{width, dots, fontSize}
 use Rattle.settings.specs.Refusals.{imageFits, stripLength, frameLength}
 use Rattle.control.specs.Control.{wordAfter, firstElsewhere, playOrder}
 use Rattle.control.proofs.Masks.{bit-there}
-use Rattle.strip.specs.Fetch.{placeOf, fetchedByte, fetchOrder}
+use Rattle.strip.specs.Fetch.{placeOf, fetchPlace, fetchedByte, fetchOrder}
 use Rattle.strip.proofs.Windows.{strip-byte}
 use Rattle.pixel.specs.Dots.{oneBit, bit}
-use Rattle.pixel.specs.Text.{lit, ink, block}
+use Rattle.pixel.specs.Text.{pattern, inverted, letter, lit, ink, block}
 use Rattle.pixel.specs.Picture.{owner, dot, pixel, picture}
 use Rattle.pixel.proofs.Shows.{shows}
 use Rattle.frame.specs.Draw.{drawOrder}
+use Rattle.frame.proofs.Draws.{bytes-internal, bytes-low}
 use Rattle.screen.specs.Show.{showOrder}
 use Rattle.back.specs.Read.{readByte}
 use Rattle.back.specs.Stray.{shows as isShown, leftmost, stray, firstStray}
@@ -54,6 +56,7 @@ use Rattle.claims.proofs.Demand1.{play-demand, fetch-demand, draw-deman
 use Rattle.claims.proofs.Demand2.{Done, value, one-more-write, strip-bytes, frame-pixels, shown-byte, shown-pixel, counted-lines}
 use Rattle.claims.proofs.Chips.{image-byte, chip-byte}
 use Rattle.claims.proofs.Copy.{picture-byte, pixel-left}
+use Rattle.claims.proofs.LowerCase.{Painted}
 use Rattle.claims.proofs.Ascents.{rg6, goes-up}
 
 -- ==== A tool that refuses everything. A call is done exactly if no condition of its order holds,
@@ -95,6 +98,10 @@ holder-accepts κs own cover key z p = holder-demand κs own cover key z p .done
 abbrev zeros : ℕ → List ℕ
 zeros n = replicate n 0
 
+all-zero : (n k : ℕ) → getD (zeros n) k 0 < 128
+all-zero n k =
+    ⊎-elim (λ (h : k < n). rw (getD-replicate {A = ℕ} n k 0 0 h) (omega arith)) (λ (h : n ≤ k). rw (List·getD-eq-default (zeros n) 0 {n = k} (omega (arith, length-replicate {A = ℕ} n 0))) (omega arith)) (lt-or-ge k n)
+
 clean : (k : ℕ) → k < frameLength → stray (lookOf 0x20) (zeros frameLength) k ≡ false
 unfolding stray isShown leftmost dots
 clean k h =
@@ -108,16 +115,28 @@ some-played = (refl, tt)
 
 pub some-fetched : NoneHolds (fetchOrder (settingsOf 0x0000 0x2E) (zeros 4096) (zeros 6144))
 unfolding imageFits width
-some-fetched = (refl, (refl, (refl, (refl, (refl, tt)))))
+some-fetched = (refl, (refl, (refl, (refl, tt))))
 
-pub some-drawn : NoneHolds (drawOrder (lookOf 0x2E) [] (zeros 6144) (zeros frameLength)) × NoneHolds (drawOrder (lookOf 0x00) (zeros 1152) (zeros 6144) (zeros frameLength))
+-- in graphics, in internal text and in external text
+pub some-drawn : NoneHolds (drawOrder (lookOf 0x2E) [] (zeros 6144) (zeros frameLength))
+    × NoneHolds (drawOrder (lookOf 0x00) (zeros 1152) (zeros 6144) (zeros frameLength))
+    × NoneHolds (drawOrder (lookOf 0x10) (zeros 3072) (zeros 6144) (zeros frameLength))
 unfolding width fontSize
-some-drawn = ((refl, (refl, (refl, (refl, (refl, tt))))), (refl, (refl, (refl, (refl, (refl, tt))))))
+some-drawn = (
+  (refl, (refl, (refl, (refl, bytes-internal (lookOf 0x2E) _ refl)))),
+  (refl, (refl, (refl, (refl, bytes-internal (lookOf 0x00) _ refl)))),
+  (refl, (refl, (refl, (refl, bytes-low (lookOf 0x10) _ (λ k h. all-zero 6144 k))))),
+)
 
 pub some-shown : NoneHolds (showOrder (settingsOf 0x0000 0x2E) (zeros 4096) [] (zeros 6144) (zeros frameLength))
     × NoneHolds (showOrder (settingsOf 0x4000 0x00) (zeros 65536) (zeros 1152) (zeros 6144) (zeros frameLength))
+    × NoneHolds (showOrder (settingsOf 0x4000 0x10) (zeros 65536) (zeros 3072) (zeros 6144) (zeros frameLength))
 unfolding imageFits width fontSize
-some-shown = ((refl, (refl, (refl, (refl, (refl, (refl, (refl, tt))))))), (refl, (refl, (refl, (refl, (refl, (refl, (refl, tt))))))))
+some-shown = (
+  (refl, (refl, (refl, (refl, (refl, (refl, bytes-internal (lookOf 0x2E) _ refl)))))),
+  (refl, (refl, (refl, (refl, (refl, (refl, bytes-internal (lookOf 0x00) _ refl)))))),
+  (refl, (refl, (refl, (refl, (refl, (refl, bytes-low (lookOf 0x10) _ (λ k h. all-zero 65536 (fetchPlace (settingsOf 0x4000 0x10) 65536 k)))))))),
+)
 
 none-stray : firstStray (lookOf 0x20) (zeros frameLength) ≡ frameLength
 unfolding firstStray
@@ -174,7 +193,11 @@ not-one-screen κs κs′ s image image′ font strip strip′ frame frame′ z 
     let w = shows (s .look) (now font) bytes bytes′ g i h (small i) (small′ i) differ in
     w .3 (sym (shown-pixel κs s image font strip frame z bytes pixels p d (w .0) (w .1)) ∙ ap (λ (x : List ℕ). getD x (w .0) 0) same ∙ shown-pixel κs′ s image′ font strip′ frame′ z′ bytes′ pixels′ q d′ (w .0) (w .1))
 
--- in text, bytes 80 and 8F at the strip's beginning do.
+-- frames that differ in their first pixel are not one
+first-differs : {out out′ : List ℕ} → getD out 0 0 ≡ 8 → getD out′ 0 0 ≡ 0 → out ≡ out′ → ⊥
+first-differs a b same = let x : _≡_ {A = ℕ} 8 0 = sym a ∙ ap (λ (l : List ℕ). getD l 0 0) same ∙ b in omega arith
+
+-- in text, bytes 80 and 8F at the strip's beginning do,
 first-pixel : (font strip : List ℕ) → (getD strip 0 0 ≡ 0x80 → picture (lookOf 0x00) font strip 0 ≡ 8) × (getD strip 0 0 ≡ 0x8F → picture (lookOf 0x00) font strip 0 ≡ 0)
 unfolding picture owner dot pixel width oneBit bit lit ink block
 first-pixel font strip = (λ e. rw e, λ e. rw e)
@@ -182,20 +205,27 @@ first-pixel font strip = (λ e. rw e, λ e. rw e)
 pub not-one-text : (κs κs′ : Lfts 3) (font strip strip′ frame frame′ : Lent) (z z′ : Answer) (out out′ : List ℕ)
     → Draws κs (lookOf 0x00) font strip frame z out → Draws κs′ (lookOf 0x00) font strip′ frame′ z′ out′ → Done z → Done z′
     → getD (now strip) 0 0 ≡ 0x80 → getD (now strip′) 0 0 ≡ 0x8F → out ≡ out′ → ⊥
-not-one-text κs κs′ font strip strip′ frame frame′ z z′ out out′ p q d d′ e e′ same =
-    let a = frame-pixels κs (lookOf 0x00) font strip frame z out p d 0 (omega arith) ∙ first-pixel (now font) (now strip) .0 e in
-    let b = frame-pixels κs′ (lookOf 0x00) font strip′ frame′ z′ out′ q d′ 0 (omega arith) ∙ first-pixel (now font) (now strip′) .1 e′ in
-    let x : _≡_ {A = ℕ} 8 0 = sym a ∙ ap (λ (l : List ℕ). getD l 0 0) same ∙ b in
-    omega arith
+not-one-text κs κs′ font strip strip′ frame frame′ z z′ out out′ p q d d′ e e′ =
+    first-differs (frame-pixels κs (lookOf 0x00) font strip frame z out p d 0 (omega arith) ∙ first-pixel (now font) (now strip) .0 e)
+    (frame-pixels κs′ (lookOf 0x00) font strip′ frame′ z′ out′ q d′ 0 (omega arith) ∙ first-pixel (now font) (now strip′) .1 e′)
 
 pub not-one-text-screen : (κs κs′ : Lfts 4) (word : ℕ) (image image′ font strip strip′ frame frame′ : Lent) (z z′ : Answer) (bytes bytes′ pixels pixels′ : List ℕ)
     → Shows κs (settingsOf word 0x00) image font strip frame z bytes pixels → Shows κs′ (settingsOf word 0x00) image′ font strip′ frame′ z′ bytes′ pixels′ → Done z → Done z′
     → getD bytes 0 0 ≡ 0x80 → getD bytes′ 0 0 ≡ 0x8F → pixels ≡ pixels′ → ⊥
-not-one-text-screen κs κs′ word image image′ font strip strip′ frame frame′ z z′ bytes bytes′ pixels pixels′ p q d d′ e e′ same =
-    let a = shown-pixel κs (settingsOf word 0x00) image font strip frame z bytes pixels p d 0 (omega arith) ∙ first-pixel (now font) bytes .0 e in
-    let b = shown-pixel κs′ (settingsOf word 0x00) image′ font strip′ frame′ z′ bytes′ pixels′ q d′ 0 (omega arith) ∙ first-pixel (now font) bytes′ .1 e′ in
-    let x : _≡_ {A = ℕ} 8 0 = sym a ∙ ap (λ (l : List ℕ). getD l 0 0) same ∙ b in
-    omega arith
+not-one-text-screen κs κs′ word image image′ font strip strip′ frame frame′ z z′ bytes bytes′ pixels pixels′ p q d d′ e e′ =
+    first-differs (shown-pixel κs (settingsOf word 0x00) image font strip frame z bytes pixels p d 0 (omega arith) ∙ first-pixel (now font) bytes .0 e)
+    (shown-pixel κs′ (settingsOf word 0x00) image′ font strip′ frame′ z′ bytes′ pixels′ q d′ 0 (omega arith) ∙ first-pixel (now font) bytes′ .1 e′)
+
+-- and in external text bytes 00 and 40 do, with a font in which the first row of their patterns is empty; said of both at once too (`Painted`).
+first-external : (font strip : List ℕ) → getD font 0 0 ≡ 0 → getD font 768 0 ≡ 0
+    → (getD strip 0 0 ≡ 0x00 → picture (lookOf 0x10) font strip 0 ≡ 8) × (getD strip 0 0 ≡ 0x40 → picture (lookOf 0x10) font strip 0 ≡ 0)
+unfolding picture owner dot pixel width oneBit bit lit ink letter pattern inverted
+first-external font strip a b = (λ e. rw (e, a), λ e. rw (e, b))
+
+pub not-one-external : (font strip strip′ out out′ : List ℕ) → Painted (lookOf 0x10) font strip out → Painted (lookOf 0x10) font strip′ out′
+    → getD font 0 0 ≡ 0 → getD font 768 0 ≡ 0 → getD strip 0 0 ≡ 0x00 → getD strip′ 0 0 ≡ 0x40 → out ≡ out′ → ⊥
+not-one-external font strip strip′ out out′ p q a b e e′ =
+    first-differs (p 0 (omega arith) ∙ first-external font strip a b .0 e) (q 0 (omega arith) ∙ first-external font strip′ a b .1 e′)
 
 -- ==== A tool that stores nothing. A done call leaves another buffer wherever what was there is not what is fetched, drawn, read, crossed or pictured.
 idle : {out old : List ℕ} (k : ℕ) {v : ℕ} → getD out k 0 ≡ v → (v ≡ getD old k 0 → ⊥) → out ≡ old → ⊥
@@ -283,7 +313,7 @@ marked-long n = length-set plain (32 * n) 1 ∙ plain-long
 -- an image of that length is accepted
 accepted-image : (image : List ℕ) → length image ≡ 65536 → NoneHolds (fetchOrder rg6 image (zeros 6144))
 unfolding imageFits width
-accepted-image image e = (refl, (refl, (refl, (rw e refl, (refl, tt)))))
+accepted-image image e = (refl, (refl, (rw e refl, (refl, tt))))
 
 pub line-alone : (n : ℕ) → n < 192
     → NoneHolds (fetchOrder rg6 plain (zeros 6144)) × NoneHolds (fetchOrder rg6 (marked n) (zeros 6144)) × (length plain ≡ 65536) × (length (marked n) ≡ 65536)

@@ -1,4 +1,4 @@
--- Drawing: document 01's order 1, 2, 6, 7, 8, and the frame afterwards.
+-- Drawing: the order 1, 6, 7, 8, 15 of documents 01 and 02, and the frame afterwards.
 use Prim.Native.Nat.{ℕ, _≤_}
 use mathlib.Core.Path.{_≡_}
 use mathlib.Core.Bool.{false}
@@ -10,16 +10,17 @@ use Rattle.promises.specs.Written.{written, leaves}
 use Rattle.settings.specs.declared.Look.{Look}
 use Rattle.settings.specs.Fields.{graphics}
 use Rattle.settings.specs.Modes.{border, fontSize}
-use Rattle.settings.specs.Refusals.{stripLength, frameLength, pinsAbove, externalText, fontLength, shortStrip, shortFrame}
+use Rattle.settings.specs.Refusals.{stripLength, frameLength, pinsAbove, fontLength, shortStrip, shortFrame}
 use Rattle.pixel.specs.Picture.{picture}
+use Rattle.valid.specs.Valid.{notValidByte}
 
--- drawing checks 1, 2, 6, 7, 8, by the look and the lengths of font, strip and frame
+-- drawing checks 1, 6, 7, 8, by the look and the lengths of font, strip and frame
 abbrev pub drawLengths : Look → ℕ → ℕ → ℕ → List Check
-drawLengths look font strip frame = pinsAbove look ∷ externalText look ∷ fontLength look font ∷ shortStrip look strip ∷ shortFrame frame ∷ []
+drawLengths look font strip frame = pinsAbove look ∷ fontLength look font ∷ shortStrip look strip ∷ shortFrame frame ∷ []
 
--- then by the bytes that are drawn, byte k of the strip; none is refused: the list waits for CR 5
+-- then 15, by the bytes that are drawn, byte k of the strip
 abbrev pub drawBytes : Look → (ℕ → ℕ) → List Check
-drawBytes look byte = []
+drawBytes look byte = notValidByte look byte ∷ []
 
 -- the whole order, over what is lent, and what is told
 abbrev pub drawOrder : Look → List ℕ → List ℕ → List ℕ → List Check

@@ -15,17 +15,20 @@ use crate::tables::by_bits;
 use crate::tables::wide;
 use settings::Look;
 
-// Whether a letter is lower case: with GM0 = 1, below 32.
+// Whether a letter is lower case: in internal text with GM0 = 1, below 32.
 fn lower(look: Look, b: u8) -> bool
     ensures { λ r. ⌜ r ≡ lower look b ⌝ }
 {
-    (settings::gm(look) % 2 == 1) & (b < 32)
+    !settings::external(look) & ((settings::gm(look) % 2 == 1) & (b < 32))
 }
 
 // Which pattern of the font a letter shows.
 fn pattern(look: Look, b: u8) -> usize
     ensures { λ r. ⌜ r ≡ pattern look b ⌝ }
 {
+    if settings::external(look) {
+        return wide(b);
+    }
     if lower(look, b) {
         64 + wide(b)
     } else {

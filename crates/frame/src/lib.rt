@@ -9,7 +9,8 @@ use letters::text;
 use settings::Look;
 use tables::wide;
 ghost use mathlib.Core.Path.{_≡_};
-ghost use lib.ListN.{length};
+ghost use mathlib.Core.List.{_++_};
+ghost use lib.ListN.{length, getD};
 ghost use Rattle.promises.specs.Told.{done};
 ghost use Rattle.promises.specs.Order.{firstOf};
 ghost use Rattle.promises.specs.Written.{Filled};
@@ -17,18 +18,18 @@ ghost use Rattle.answer.specs.Told.{toldOf};
 ghost use Rattle.settings.specs.Modes.{border};
 ghost use Rattle.settings.specs.Refusals.{frameLength};
 ghost use Rattle.pixel.specs.Picture.{picture};
-ghost use Rattle.frame.specs.Draw.{drawLengths, drawTold, frameAfter, DrawFits};
+ghost use Rattle.frame.specs.Draw.{drawLengths, drawBytes, drawTold, frameAfter, DrawFits};
 
-// The answer, by the look and the three lengths.
-fn length_answer(look: Look, font: usize, strip: usize, frame: usize) -> Answer
-    ensures { λ r. ⌜ toldOf r ≡ firstOf (drawLengths look font strip frame) (done (border look)) ⌝ }
+// The answer, by the look, the three lengths, and the bytes that are drawn.
+fn draw_answer(look: Look, font: usize, strip: &[u8], frame: usize) -> Answer
+    ensures { λ r. ⌜ toldOf r ≡ firstOf (drawLengths look font (length (now (strip .entry))) frame ++ drawBytes look (λ k. getD (now (strip .entry)) k 0)) (done (border look)) ⌝ }
 {
     let mut answer = Answer::Done(wide(settings::border(look)));
     answer = settings::pins_above(answer, look);
-    answer = settings::external_text(answer, look);
     answer = settings::font_length(answer, look, font);
-    answer = settings::short_strip(answer, look, strip);
-    settings::short_frame(answer, frame)
+    answer = settings::short_strip(answer, look, strip.len());
+    answer = settings::short_frame(answer, frame);
+    valid::not_valid(answer, look, strip)
 }
 
 // Draws the picture, where nothing is refused.
@@ -48,7 +49,7 @@ pub fn draw(look: Look, font: &[u8], strip: &[u8], frame: &mut [u8]) -> Answer
     ensures answer { λ r. ⌜ toldOf r ≡ drawTold look (now (font .entry)) (now (strip .entry)) (now (frame .entry)) ⌝ }
     ensures frame { λ r. ⌜ now (frame .exit) ≡ frameAfter look (now (font .entry)) (now (strip .entry)) (now (frame .entry)) ⌝ }
 {
-    let answer = length_answer(look, font.len(), strip.len(), frame.len());
+    let answer = draw_answer(look, font.len(), strip, frame.len());
     if answer::number(answer) != 0 {
         return answer;
     }

@@ -1,4 +1,4 @@
--- Laws of what is told of a sheet's settings, along the order 11, 10, 1, 2, 4.
+-- Laws of what is told of a sheet's settings, along the order 11, 10, 1, 4.
 use Prim.Native.Nat.{ℕ, _-_, _≤_}
 use mathlib.Core.Path.{_≡_, refl, sym, ap, _∙_}
 use mathlib.Core.Bool.{Bool, true, false, not}
@@ -56,7 +56,7 @@ module _ (s : List ℕ) where
         let b = refused-by (ltb (firstElsewhere (fieldsIn s .writes)) (length (fieldsIn s .writes))) (told 10 (firstElsewhere (fieldsIn s .writes)) 0) (done (played 0 (fieldsIn s .writes))) refl (λ z. h (rw e z)) in
         rw (got-by (readSheet s) a, b) (rw b at e)
 
-    -- 1, 2, 4, or done
+    -- 1, 4, or done
     pub told-settings : {t : Told} → playTold 0 (fieldsIn s .writes) .number ≡ 0 → t ≡ firstOf (settingOrder (settingsIn s)) (done 0) → t ≡ intakeTold s
     unfolding intakeTold playTold
     told-settings {t} p e =

@@ -1,4 +1,4 @@
--- The settings of a sheet and what is told of them (document 01, "The report"): its writes played from reset, in the order 11, 10, 1, 2, 4.
+-- The settings of a sheet and what is told of them (document 01, "The report"): its writes played from reset, in the order 11, 10, 1, 4.
 use Prim.Native.Nat.{ℕ}
 use mathlib.Core.List.{List, [], _∷_, _++_}
 use lib.Dec.{eqb}
@@ -7,7 +7,7 @@ use Rattle.promises.specs.Told.{Told, done}
 use Rattle.promises.specs.Order.{Check, firstOf}
 use Rattle.settings.specs.declared.Settings.{Settings}
 use Rattle.settings.specs.Fields.{settingsOf}
-use Rattle.settings.specs.Refusals.{pinsAbove, externalText, fastRate}
+use Rattle.settings.specs.Refusals.{pinsAbove, fastRate}
 use Rattle.control.specs.Control.{played, playOrder}
 use Rattle.grammar.specs.Given.{fieldsIn, sheetOrder}
 
@@ -15,9 +15,9 @@ use Rattle.grammar.specs.Given.{fieldsIn, sheetOrder}
 unfoldable pub settingsIn : List ℕ → Settings
 settingsIn s = settingsOf (played 0 (fieldsIn s .writes)) (fieldsIn s .pins)
 
--- 1, 2, 4
+-- 1, 4
 abbrev pub settingOrder : Settings → List Check
-settingOrder s = pinsAbove (s .look) ∷ externalText (s .look) ∷ fastRate s ∷ []
+settingOrder s = pinsAbove (s .look) ∷ fastRate s ∷ []
 
 -- 11 with its place, 10 with its write, and then those
 abbrev pub intakeOrder : List ℕ → List Check

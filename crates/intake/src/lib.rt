@@ -30,18 +30,17 @@ fn refused(answer: Answer, annotations: usize) -> Intake
     }
 }
 
-// The checks of the settings: 1, 2, 4.
+// The checks of the settings: 1, 4.
 fn settings_answer(settings: Settings) -> Answer
     ensures { λ r. ⌜ toldOf r ≡ firstOf (settingOrder settings) (done 0) ⌝ }
 {
     let look = settings.look;
     let mut answer = Answer::Done(0);
     answer = settings::pins_above(answer, look);
-    answer = settings::external_text(answer, look);
     settings::fast_rate(answer, settings)
 }
 
-// The settings of a sheet; it is refused with 11, 10, 1, 2, 4, in this order.
+// The settings of a sheet; it is refused with 11, 10, 1, 4, in this order.
 pub fn settings_of(sheet: &[u8]) -> Intake
     ensures { λ r. ⌜ Taken (now (sheet .entry)) r ⌝ }
 {

@@ -1,4 +1,4 @@
--- The dots of text bytes: document 01's figure, CR 2's case, and a case for each rule of letters and of Semigraphics, computed from the definitions.
+-- The dots of text bytes: document 01's figure, CR 2's case, and a case for each rule of letters, of external text and of Semigraphics, computed from the definitions.
 use Prim.Native.Nat.{ℕ, zero, suc}
 use mathlib.Core.List.{List, [], _∷_, _++_}
 use lib.Dec.{T}
@@ -9,9 +9,9 @@ use Rattle.pixel.specs.Dots.{bit, oneBit}
 use Rattle.pixel.specs.Text.{pattern, inverted, letter, block, lit, ink}
 use Rattle.pixel.specs.Picture.{pixel}
 
--- a font whose pattern 1 has 18 in its first row, and pattern 65 has 3C
+-- a font whose pattern 1 has 18 in its first row, and patterns 65 and 97 have 3C
 abbrev font : List ℕ
-font = replicate 12 0 ++ (0x18 ∷ []) ++ replicate 767 0 ++ (0x3C ∷ [])
+font = replicate 12 0 ++ (0x18 ∷ []) ++ replicate 767 0 ++ (0x3C ∷ []) ++ replicate 383 0 ++ (0x3C ∷ [])
 
 -- the eight dots of a byte on a line, by the pins
 abbrev dotsFrom : ℕ → ℕ → ℕ → ℕ → List ℕ
@@ -42,6 +42,14 @@ examples =
     ∷ figure (dots 0x02 0x01 0) (0 ∷ 0 ∷ 8 ∷ 8 ∷ 8 ∷ 8 ∷ 0 ∷ 0 ∷ [])
     ∷ figure (dots 0x07 0x01 0) (8 ∷ 8 ∷ 7 ∷ 7 ∷ 7 ∷ 7 ∷ 8 ∷ 8 ∷ [])
     ∷ figure (dots 0x02 0x41 0) (0 ∷ 0 ∷ 0 ∷ 8 ∷ 8 ∷ 0 ∷ 0 ∷ 0 ∷ [])
+    -- CR 5: in external text the pattern is the whole byte and DD6 inverts, from 64 on; GM0 is not read
+    ∷ figure (shown 0x10 0x00 ++ shown 0x10 0x3F) (0 ∷ 0 ∷ 63 ∷ 0 ∷ [])
+    ∷ figure (shown 0x10 0x40 ++ shown 0x10 0x7F) (64 ∷ 1 ∷ 127 ∷ 1 ∷ [])
+    ∷ figure (shown 0x12 0x01 ++ shown 0x1F 0x61) (1 ∷ 0 ∷ 97 ∷ 1 ∷ [])
+    -- so patterns 1, 65 and 97 are shown by their own bytes; GM1 exchanges, and CSS 1 shows orange
+    ∷ figure (dots 0x10 0x01 0) (8 ∷ 8 ∷ 8 ∷ 0 ∷ 0 ∷ 8 ∷ 8 ∷ 8 ∷ [])
+    ∷ figure (dots 0x10 0x41 0 ++ dots 0x14 0x61 0) (0 ∷ 0 ∷ 8 ∷ 8 ∷ 8 ∷ 8 ∷ 0 ∷ 0 ∷ 8 ∷ 8 ∷ 0 ∷ 0 ∷ 0 ∷ 0 ∷ 8 ∷ 8 ∷ [])
+    ∷ figure (dots 0x13 0x41 0) (7 ∷ 7 ∷ 8 ∷ 8 ∷ 8 ∷ 8 ∷ 7 ∷ 7 ∷ [])
     -- Semigraphics: bits 3, 2, 1, 0 light top left, top right, bottom left, bottom right, in the colour of bits 6-4
     ∷ figure (dots 0x00 0x98 5 ++ dots 0x00 0x98 6) (1 ∷ 1 ∷ 1 ∷ 1 ∷ 8 ∷ 8 ∷ 8 ∷ 8 ∷ 8 ∷ 8 ∷ 8 ∷ 8 ∷ 8 ∷ 8 ∷ 8 ∷ 8 ∷ [])
     ∷ figure (dots 0x00 0xA4 0 ++ dots 0x00 0xA4 11) (8 ∷ 8 ∷ 8 ∷ 8 ∷ 2 ∷ 2 ∷ 2 ∷ 2 ∷ 8 ∷ 8 ∷ 8 ∷ 8 ∷ 8 ∷ 8 ∷ 8 ∷ 8 ∷ [])

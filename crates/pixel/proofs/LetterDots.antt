@@ -13,7 +13,7 @@ use Rattle.promises.specs.Written.{Bytes}
 use Rattle.promises.proofs.Choices.{of-both, and-false}
 use Rattle.promises.proofs.Tables.{each-below}
 use Rattle.settings.specs.declared.Look.{Look}
-use Rattle.settings.specs.Fields.{graphics, gm1, gm0, css}
+use Rattle.settings.specs.Fields.{graphics, external, gm1, gm0, css}
 use Rattle.pixel.specs.Dots.{black, bit, oneBit}
 use Rattle.pixel.specs.Text.{dd6, lower, pattern, inverted, letter, block, lit, ink}
 use Rattle.pixel.specs.Picture.{owner, dot, picture}
@@ -21,15 +21,21 @@ use Rattle.pixel.proofs.Owners.{owner-div, dot-mod, in-text}
 use Rattle.pixel.proofs.Letters.{text-width}
 
 module _ (l : Look) where
-  -- lower case shows pattern 64 plus the byte, inverted; every other letter that of its low six bits, inverted as DD6 says
-  pub shows-lower : (b : ℕ) → gm0 l ≡ 1 → b < 32 → (pattern l b ≡ 64 + b) × (inverted l b ≡ 1)
+  -- external text shows the pattern of the byte's whole number, inverted as DD6 says
+  pub shows-external : (b : ℕ) → external l ≡ true → (pattern l b ≡ b) × (inverted l b ≡ dd6 b)
   unfolding pattern inverted
-  shows-lower b e h = let low = lt-ltb b 32 h in (simp (e, low), simp (e, low))
+  shows-external b x = (rw x, rw x)
 
-  pub shows-other : (b : ℕ) → (gm0 l ≡ 0) ⊎ (32 ≤ b) → (pattern l b ≡ b % 64) × (inverted l b ≡ dd6 b)
-  unfolding pattern inverted
-  shows-other b (inl e) = (simp e, simp e)
-  shows-other b (inr h) = let high = le-ltb b 32 h in (simp (high, and-false), simp (high, and-false))
+  -- in internal text lower case shows pattern 64 plus the byte, inverted; every other letter that of its low six bits, inverted as DD6 says
+  module _ (own : external l ≡ false) where
+    pub shows-lower : (b : ℕ) → gm0 l ≡ 1 → b < 32 → (pattern l b ≡ 64 + b) × (inverted l b ≡ 1)
+    unfolding pattern inverted
+    shows-lower b e h = let low = lt-ltb b 32 h in (rw own (simp (e, low)), rw own (simp (e, low)))
+
+    pub shows-other : (b : ℕ) → (gm0 l ≡ 0) ⊎ (32 ≤ b) → (pattern l b ≡ b % 64) × (inverted l b ≡ dd6 b)
+    unfolding pattern inverted
+    shows-other b (inl e) = (rw own (simp e), rw own (simp e))
+    shows-other b (inr h) = let high = le-ltb b 32 h in (rw own (simp (high, and-false)), rw own (simp (high, and-false)))
 
 -- where each bit of a byte is the other one, each dot is the other one too
 turned : (on off m : ℕ) → m < 2 → choose (eqb (1 - m) 1) on off ≡ choose (eqb m 1) off on
@@ -49,13 +55,11 @@ exchanged on off x t h i =
     let e : bit (255 - n / 8) (n % 8) ≡ 1 - bit (n / 8) (n % 8) = eqb→eq _ _ (each-below other-bit 2048 tt n (omega arith)) in
     rw (rw (d, m) at e) (turned on off (bit x t) (omega arith))
 
--- from 32 on GM0 does not matter
-pub from-32 : (l m : Look) (font : List ℕ) (b row : ℕ) → 32 ≤ b → gm1 l ≡ gm1 m → css l ≡ css m → (lit l font b row ≡ lit m font b row) × (ink l b ≡ ink m b)
+-- a byte of which two looks show the same pattern, both inverted or neither, is drawn alike under both
+pub same-letter : (l m : Look) (font : List ℕ) (b row n i : ℕ) → (pattern l b ≡ n) × (inverted l b ≡ i) → (pattern m b ≡ n) × (inverted m b ≡ i) → gm1 l ≡ gm1 m → css l ≡ css m
+    → (lit l font b row ≡ lit m font b row) × (ink l b ≡ ink m b)
 unfolding lit letter block ink
-from-32 l m font b row h e c =
-    let own = shows-other l b (inr h) in
-    let other = shows-other m b (inr h) in
-    (rw (own .0, own .1, other .0, other .1, e), rw c)
+same-letter l m font b row n i own other e c = (rw (own .0, own .1, other .0, other .1, e), rw c)
 
 -- in text strip byte k / 8 draws pixel k
 abbrev pub byteAt : List ℕ → ℕ → ℕ
@@ -95,22 +99,22 @@ by-dot on off (suc zero) true h = inr (refl, refl)
 by-dot on off (suc zero) false h = inl (refl, refl)
 by-dot on off (suc (suc i)) c h = absurd (omega arith)
 
--- what a letter shows reads GM0 alone, and inverting is 1 or 0
-same-shown : (l m : Look) → gm0 l ≡ gm0 m → (b : ℕ) → (pattern m b ≡ pattern l b) × (inverted m b ≡ inverted l b)
+-- what a letter shows reads INT/EXT and GM0 alone, and inverting is 1 or 0
+same-shown : (l m : Look) → external l ≡ external m → gm0 l ≡ gm0 m → (b : ℕ) → (pattern m b ≡ pattern l b) × (inverted m b ≡ inverted l b)
 unfolding pattern inverted
-same-shown l m same b = (rw same, rw same)
+same-shown l m kind same b = (rw (kind, same), rw (kind, same))
 
 one-or-none : (l : Look) (b : ℕ) → inverted l b < 2
 unfolding inverted
 one-or-none l b = of-both (λ (i : ℕ). i < 2) (lower l b) (omega arith) (omega arith)
 
 -- GM1 = 1 exchanges each dot of a letter
-pub gm1-turns : (l m : Look) (font strip : List ℕ) (k : ℕ) → graphics l ≡ false → graphics m ≡ false → gm0 l ≡ gm0 m → css l ≡ css m → gm1 l ≡ 0 → gm1 m ≡ 1
+pub gm1-turns : (l m : Look) (font strip : List ℕ) (k : ℕ) → graphics l ≡ false → graphics m ≡ false → external l ≡ external m → gm0 l ≡ gm0 m → css l ≡ css m → gm1 l ≡ 0 → gm1 m ≡ 1
     → Bytes font → byteAt strip k < 128 → Exchanged (7 * css l) black (picture l font strip k) (picture m font strip k)
 unfolding oneBit
-gm1-turns l m font strip k g h same colour off on holds small =
+gm1-turns l m font strip k g h kind same colour off on holds small =
     let b = byteAt strip k in
     let own = letter-dot l font strip k g holds small (pattern l b) (inverted l b) (refl, refl) in
-    let other = letter-dot m font strip k h holds small (pattern l b) (inverted l b) (same-shown l m same b) in
+    let other = letter-dot m font strip k h holds small (pattern l b) (inverted l b) (same-shown l m kind same b) in
     rw (own, other, ← colour, off, on)
     (by-dot (7 * css l) black (inverted l b) (eqb (bit (getD font (pattern l b * 12 + k / 256 % 12) 0) (k % 8)) 1) (one-or-none l b))

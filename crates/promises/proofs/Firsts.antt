@@ -7,6 +7,13 @@ use native.Mathlib.Omega.{arith}
 use Rattle.promises.specs.Choose.{choose}
 use Rattle.promises.specs.First.{firstWhere}
 
+-- only the places below n are asked
+pub same-first : (p q : ℕ → Bool) (n : ℕ) → ((k : ℕ) → k < n → p k ≡ q k) → firstWhere p n ≡ firstWhere q n
+unfolding firstWhere
+same-first p q zero e = refl
+same-first p q (suc n) e =
+    rw (e 0 (omega arith), same-first (λ (k : ℕ). p (suc k)) (λ (k : ℕ). q (suc k)) n (λ k l. e (suc k) (omega arith)))
+
 -- it is n at most
 le-by : (b : Bool) (m n : ℕ) → m ≤ n → choose b 0 (suc m) ≤ suc n
 le-by true m n h = zero-le

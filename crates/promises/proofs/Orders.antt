@@ -1,11 +1,11 @@
 -- The law of an order of refusals: each number exactly when its condition holds and none earlier does, and done exactly when none does.
 use Prim.Native.Nat.{ℕ, _<_}
 use mathlib.Core.Path.{_≡_, refl, ap, _∙_}
-use mathlib.Core.Bool.{Bool, true, false, _&&_, _||_}
-use mathlib.Core.List.{List, [], _∷_}
+use mathlib.Core.Bool.{Bool, true, false, not, _&&_, _||_}
+use mathlib.Core.List.{List, [], _∷_, map}
 use mathlib.Core.Logic.{_⊎_, inl, inr, ⊎-elim, _↔_}
 use native.Mathlib.Omega.{arith}
-use borrow.Author.Tests.{eq-eqb, ne-eqb}
+use borrow.Author.Tests.{eq-eqb, ne-eqb, eqb-false}
 use lib.Dec.{T, eqb, ltb, ltb→lt}
 use Rattle.promises.specs.Choose.{choose}
 use Rattle.promises.specs.Told.{Told}
@@ -76,6 +76,23 @@ passing-by false c cs e n = n
 pub passing : (ns : List ℕ) (cs : List Check) → NoneHolds cs → NoneHolds (only ns cs)
 passing ns [] n = tt
 passing ns (c ∷ cs) n = passing-by (among ns (c .says .number)) c (only ns cs) (n .0) (passing ns cs (n .1))
+
+-- a number that no check of an order has is never given
+abbrev pub lacks : ℕ → List Check → Bool
+lacks n cs = not (among (map (λ (c : Check). c .says .number) cs) n)
+
+never-by : (m n : ℕ) (a : Bool) → T (not (eqb m n || a)) → (m ≡ n → ⊥) × T (not a)
+never-by m n a t = by-either (eqb m n) a (λ e. eqb-false m n e) t
+  where
+    by-either : (b a : Bool) → (b ≡ false → m ≡ n → ⊥) → T (not (b || a)) → (m ≡ n → ⊥) × T (not a)
+    by-either true a f t = absurd t
+    by-either false a f t = (f refl, t)
+
+pub never : (n : ℕ) (cs : List Check) → T (lacks n cs) → HoldsFirst n cs → ⊥
+never n [] t h = h
+never n (c ∷ cs) t h =
+    let s = never-by (c .says .number) n (among (map (λ (c : Check). c .says .number) cs) n) t in
+    ⊎-elim (λ x. s .0 (x .0)) (λ x. never n cs (s .1) (x .1)) h
 
 -- none holds either with a check that does not hold in the place of those with its number
 pub instead-passes : (c : Check) (cs : List Check) → c .when ≡ false → NoneHolds cs → NoneHolds (instead c cs)

@@ -54,6 +54,11 @@ module _ (s : Settings) (image font strip frame : List ℕ) where
   unfolding showTold
   lengths-done e = first-done (done (border (s .look))) refl (showLengths s (length image) (length font) (length strip) (length frame)) (showFetched s image) e
 
+  -- where no length is refused, what is told is what is told of what is fetched
+  pub told-fetched : lengths .number ≡ 0 → showTold s image font strip frame ≡ firstOf (showFetched s image) (done (border (s .look)))
+  unfolding showTold
+  told-fetched h = first-passes (done (border (s .look))) refl (showLengths s (length image) (length font) (length strip) (length frame)) (showFetched s image) tt h
+
   -- where no length is refused, and a room is long enough for a strip: what fetching leaves there, and what drawing that tells
   module _ (h : lengths .number ≡ 0) where
     none : NoneHolds (showLengths s (length image) (length font) (length strip) (length frame))
@@ -70,7 +75,7 @@ module _ (s : Settings) (image font strip frame : List ℕ) where
       unfolding fetchTold
       fetch-done =
           done-when (done (stripLength (s .look))) refl (fetchOrder s image room) tt .1
-          (passing (1 ∷ 2 ∷ 4 ∷ 5 ∷ 7 ∷ []) (showLengths s (length image) (length font) (length room) (length frame)) there)
+          (passing (1 ∷ 4 ∷ 5 ∷ 7 ∷ []) (showLengths s (length image) (length font) (length room) (length frame)) there)
 
       pub fetched-byte : (k : ℕ) → k < stripLength (s .look) → getD (stripAfter s image room) k 0 ≡ fetchedByte s image k
       fetched-byte = strip-byte s image room fetch-done
@@ -79,13 +84,10 @@ module _ (s : Settings) (image font strip frame : List ℕ) where
       draw-fits =
           rw (strip-same-length s image room)
           (done-when (done (border (s .look))) refl (drawLengths (s .look) (length font) (length room) (length frame)) tt .1
-          (passing (1 ∷ 2 ∷ 6 ∷ 7 ∷ 8 ∷ []) (showLengths s (length image) (length font) (length room) (length frame)) there))
+          (passing (1 ∷ 6 ∷ 7 ∷ 8 ∷ []) (showLengths s (length image) (length font) (length room) (length frame)) there))
 
       pub draw-told : drawTold (s .look) font (stripAfter s image room) frame ≡ showTold s image font strip frame
-      unfolding showTold
-      draw-told =
-          told-passed (s .look) font (stripAfter s image room) frame (fetchedByte s image) draw-fits fetched-byte
-          ∙ sym (first-passes (done (border (s .look))) refl (showLengths s (length image) (length font) (length strip) (length frame)) (showFetched s image) tt h)
+      draw-told = told-passed (s .look) font (stripAfter s image room) frame (fetchedByte s image) draw-fits fetched-byte ∙ sym (told-fetched h)
 
     -- what is told and left by drawing what was fetched there, where it is then stored and where it is not
     module _ (room : List ℕ) (long : stripLength (s .look) ≤ length room) {t : Told} {bytes pixels : List ℕ}

@@ -22,7 +22,6 @@ fn length_answer(
     let look = settings.look;
     let mut answer = Answer::Done(settings::border(look) as usize);
     answer = settings::pins_above(answer, look);
-    answer = settings::external_text(answer, look);
     answer = settings::fast_rate(answer, settings);
     answer = settings::image_length(answer, image);
     answer = settings::font_length(answer, look, font);

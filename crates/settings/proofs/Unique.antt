@@ -6,6 +6,7 @@ use Rattle.answer.proofs.Answers.{one-answer}
 use Rattle.settings.proofs.video_mode as video-mode
 use Rattle.settings.proofs.offset as offset
 use Rattle.settings.proofs.graphics as graphics
+use Rattle.settings.proofs.external as external
 use Rattle.settings.proofs.gm as gm
 use Rattle.settings.proofs.css as css
 use Rattle.settings.proofs.width as width
@@ -14,7 +15,6 @@ use Rattle.settings.proofs.dots as dots
 use Rattle.settings.proofs.border as border
 use Rattle.settings.proofs.mode_name as mode-name
 use Rattle.settings.proofs.pins_above as pins-above
-use Rattle.settings.proofs.external_text as external-text
 use Rattle.settings.proofs.text_back as text-back
 use Rattle.settings.proofs.fast_rate as fast-rate
 use Rattle.settings.proofs.image_length as image-length
@@ -47,6 +47,16 @@ graphics-op = record { key = graphics.Key.name; T = graphics.ended; clauses = λ
 
 pub graphics-fixes : Fixes graphics-op
 graphics-fixes = record {
+  takes-all = λ w κs a g. id⊢ (w .𝓤) (emp (w .𝓤));
+  tells = λ w κs a g z e. one-tells (w .𝓤) _;
+  one-outcome = λ κs a z z′ ws ws′ p q. (p ∙ sym q, refl);
+}
+
+abbrev pub external-op : Operation
+external-op = record { key = external.Key.name; T = external.ended; clauses = λ M. external.clauses; Says = external.Reads.Learnt; O = _; seen = λ κs. whole }
+
+pub external-fixes : Fixes external-op
+external-fixes = record {
   takes-all = λ w κs a g. id⊢ (w .𝓤) (emp (w .𝓤));
   tells = λ w κs a g z e. one-tells (w .𝓤) _;
   one-outcome = λ κs a z z′ ws ws′ p q. (p ∙ sym q, refl);
@@ -127,16 +137,6 @@ pins-above-op = record { key = pins-above.Key.name; T = pins-above.ended; clause
 
 pub pins-above-fixes : Fixes pins-above-op
 pins-above-fixes = record {
-  takes-all = λ w κs a g. id⊢ (w .𝓤) (emp (w .𝓤));
-  tells = λ w κs a g z e. one-tells (w .𝓤) _;
-  one-outcome = λ κs a z z′ ws ws′ p q. (one-answer p q, refl);
-}
-
-abbrev pub external-text-op : Operation
-external-text-op = record { key = external-text.Key.name; T = external-text.ended; clauses = λ M. external-text.clauses; Says = external-text.Reads.Learnt; O = _; seen = λ κs. whole }
-
-pub external-text-fixes : Fixes external-text-op
-external-text-fixes = record {
   takes-all = λ w κs a g. id⊢ (w .𝓤) (emp (w .𝓤));
   tells = λ w κs a g z e. one-tells (w .𝓤) _;
   one-outcome = λ κs a z z′ ws ws′ p q. (one-answer p q, refl);

@@ -1,6 +1,6 @@
 -- The fields of the control word (document 003) and the pins of the pin byte (document 01).
 use Prim.Native.Nat.{ℕ, _/_, _%_, _^_}
-use mathlib.Core.Bool.{Bool}
+use mathlib.Core.Bool.{Bool, not, _&&_}
 use lib.Dec.{eqb}
 use Rattle.settings.specs.declared.Look.{Look}
 use Rattle.settings.specs.declared.Settings.{Settings}
@@ -36,9 +36,9 @@ fast s = eqb (bits (s .word) 12 1) 1
 abbrev pub graphics : Look → Bool
 graphics l = eqb (bits (l .pins) 5 1) 1
 
--- INT/EXT = 1
+-- external characters: A/G = 0 and INT/EXT = 1
 abbrev pub external : Look → Bool
-external l = eqb (bits (l .pins) 4 1) 1
+external l = not (graphics l) && eqb (bits (l .pins) 4 1) 1
 
 -- GM2-GM0 as a number, and each of the three
 abbrev pub gm : Look → ℕ

@@ -7,7 +7,7 @@ use lib.ListN.{length, take, getD, replicate}
 use Rattle.promises.specs.Choose.{choose}
 use Rattle.settings.specs.declared.Look.{Look}
 use Rattle.settings.specs.declared.Name.{Name}
-use Rattle.settings.specs.Fields.{graphics, gm, gm2, gm1, css}
+use Rattle.settings.specs.Fields.{graphics, external, gm, gm2, gm1, css}
 
 -- CG1, RG1, CG2, RG2, CG3, RG3, CG6, RG6: bytes a line W
 abbrev pub widths : List ℕ
@@ -32,9 +32,11 @@ width l = choose (graphics l) (getD widths (gm l) 0) 32
 unfoldable pub dots : Look → ℕ
 dots l = choose (graphics l) (getD elements (gm l) 0) 1
 
--- the name: C or R, G and the digit; text is A1, A2, A3, A4 by GM1, GM0
+-- the name: C or R, G and the digit; text is EXT where its characters are external, else A1, A2, A3, A4 by GM1, GM0
 unfoldable pub modeName : Look → List ℕ
-modeName l = choose (graphics l) (getD modeKinds (gm l) 0 ∷ 71 ∷ getD modeDigits (gm l) 0 ∷ []) (65 ∷ (49 + gm l % 4) ∷ [])
+modeName l =
+    choose (graphics l) (getD modeKinds (gm l) 0 ∷ 71 ∷ getD modeDigits (gm l) 0 ∷ [])
+    (choose (external l) (69 ∷ 88 ∷ 84 ∷ []) (65 ∷ (49 + gm l % 4) ∷ []))
 
 -- a name of two or three bytes in an array of three, the rest 0
 abbrev pub named : List ℕ → Name
@@ -44,6 +46,6 @@ named s = record { bytes = take 3 (s ++ replicate 3 0); len = length s }
 unfoldable pub border : Look → ℕ
 border l = choose (graphics l) (4 * css l) (choose (eqb (gm2 l) 0 || eqb (gm1 l) 1) 8 (7 * css l))
 
--- the font that text asks for: 96 patterns of 12 bytes
+-- the font that text asks for: 96 patterns of 12 bytes, and of external characters 256
 unfoldable pub fontSize : Look → ℕ
-fontSize l = 1152
+fontSize l = choose (external l) 3072 1152

@@ -1,4 +1,4 @@
--- Document 01's table of numbers, 1 to 8: when each is given, from the settings and the lengths of what is lent.
+-- Document 01's table of numbers, 1 and 3 to 8: when each is given, from the settings and the lengths of what is lent. 2 is no longer given (CR 5).
 use Prim.Native.Nat.{ℕ, _*_}
 use mathlib.Core.Bool.{Bool, not, _&&_, _||_}
 use lib.Dec.{ltb, eqb}
@@ -6,7 +6,7 @@ use Rattle.promises.specs.Told.{refused}
 use Rattle.promises.specs.Order.{Check, check}
 use Rattle.settings.specs.declared.Look.{Look}
 use Rattle.settings.specs.declared.Settings.{Settings}
-use Rattle.settings.specs.Fields.{fast, graphics, external}
+use Rattle.settings.specs.Fields.{fast, graphics}
 use Rattle.settings.specs.Modes.{width, fontSize}
 
 -- the lengths that an image may have
@@ -23,10 +23,6 @@ frameLength = 49152
 -- 1: pin byte above 63
 abbrev pub pinsAbove : Look → Check
 pinsAbove l = check (ltb 63 (l .pins)) (refused 1)
-
--- 2: A/G = 0 and INT/EXT = 1
-abbrev pub externalText : Look → Check
-externalText l = check (not (graphics l) && external l) (refused 2)
 
 -- 3: reading back with A/G = 0
 abbrev pub textBack : Look → Check

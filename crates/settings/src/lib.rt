@@ -6,7 +6,7 @@ ghost use Prim.Native.Nat.{_<_};
 ghost use Rattle.promises.specs.Order.{after};
 ghost use Rattle.answer.specs.Told.{toldOf};
 ghost use Rattle.settings.specs.Fields.{bits, videoMode, offset, fast, graphics, external, gm, css};
-ghost use Rattle.settings.specs.Refusals.{imageFits, stripLength, pinsAbove, externalText, textBack, fastRate, imageLength, fontLength, shortStrip, shortFrame};
+ghost use Rattle.settings.specs.Refusals.{imageFits, stripLength, pinsAbove, textBack, fastRate, imageLength, fontLength, shortStrip, shortFrame};
 ghost use Rattle.settings.specs.Modes.{width, dots, border, fontSize, modeName, named};
 
 // The look of a frame: the pin byte, fixed for a frame.
@@ -74,11 +74,11 @@ pub fn graphics(look: Look) -> bool
     field(look.pins as u16, 5, 1) == 1
 }
 
-// INT/EXT: whether text has external characters.
-fn external(look: Look) -> bool
+// A/G and INT/EXT: whether the mode is text with external characters.
+pub fn external(look: Look) -> bool
     ensures { λ r. ⌜ r ≡ external look ⌝ }
 {
-    field(look.pins as u16, 4, 1) == 1
+    !graphics(look) & (field(look.pins as u16, 4, 1) == 1)
 }
 
 // GM2-GM0 as a number.
@@ -146,6 +146,12 @@ pub fn mode_name(look: Look) -> Name
             len: 3,
         };
     }
+    if external(look) {
+        return Name {
+            bytes: [b'E', b'X', b'T'],
+            len: 3,
+        };
+    }
     Name {
         bytes: [b'A', 49 + (g % 4) as u8, 0],
         len: 2,
@@ -159,17 +165,6 @@ pub fn pins_above(answer: Answer, look: Look) -> Answer
     ensures { λ r. ⌜ toldOf r ≡ after (pinsAbove look) (toldOf answer) ⌝ }
 {
     answer::check(answer, 63 < look.pins, Answer::Unfit(Unfit::PinsAbove))
-}
-
-// 2: A/G = 0 and INT/EXT = 1.
-pub fn external_text(answer: Answer, look: Look) -> Answer
-    ensures { λ r. ⌜ toldOf r ≡ after (externalText look) (toldOf answer) ⌝ }
-{
-    answer::check(
-        answer,
-        !graphics(look) & external(look),
-        Answer::Unfit(Unfit::External),
-    )
 }
 
 // 3: reading back with A/G = 0.
@@ -211,7 +206,7 @@ pub fn image_length(answer: Answer, length: usize) -> Answer
 fn font_size(look: Look) -> usize
     ensures { λ r. ⌜ r ≡ fontSize look ⌝ }
 {
-    1152
+    if external(look) { 3072 } else { 1152 }
 }
 
 // 6: A/G = 0 and font length not the one asked for.

@@ -8,7 +8,7 @@ use Rattle.promises.specs.Order.{Check, firstOf}
 use Rattle.promises.specs.Written.{written, leaves}
 use Rattle.settings.specs.declared.Settings.{Settings}
 use Rattle.settings.specs.Modes.{width}
-use Rattle.settings.specs.Refusals.{pinsAbove, externalText, fastRate, imageLength, shortStrip, stripLength}
+use Rattle.settings.specs.Refusals.{pinsAbove, fastRate, imageLength, shortStrip, stripLength}
 use Rattle.counter.specs.declared.Counter.{Counter}
 use Rattle.counter.specs.Counter.{bytesOn, addressOf}
 
@@ -31,9 +31,9 @@ fetchedByte s image k = getD image (fetchPlace s (length image) k) 0
 abbrev pub byteOn : Settings → List ℕ → Counter → ℕ → ℕ
 byteOn s image c j = getD image (imagePlace s (length image) (bytesOn s j c .address)) 0
 
--- fetching checks 1, 2, 4, 5, 7, by the settings and the lengths of image and strip
+-- fetching checks 1, 4, 5, 7, by the settings and the lengths of image and strip
 abbrev pub fetchLengths : Settings → ℕ → ℕ → List Check
-fetchLengths s image strip = pinsAbove (s .look) ∷ externalText (s .look) ∷ fastRate s ∷ imageLength image ∷ shortStrip (s .look) strip ∷ []
+fetchLengths s image strip = pinsAbove (s .look) ∷ fastRate s ∷ imageLength image ∷ shortStrip (s .look) strip ∷ []
 
 -- then by the fetched places of an image of this length; none is refused: the list waits for CR 7
 abbrev pub fetchPlaces : Settings → ℕ → List Check

@@ -107,7 +107,6 @@ fn length_answer(settings: Settings, image: usize, strip: usize) -> Answer
     let look = settings.look;
     let mut answer = Answer::Done(settings::strip_length(look));
     answer = settings::pins_above(answer, look);
-    answer = settings::external_text(answer, look);
     answer = settings::fast_rate(answer, settings);
     answer = settings::image_length(answer, image);
     settings::short_strip(answer, look, strip)

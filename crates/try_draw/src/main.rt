@@ -1,4 +1,4 @@
-// Tries drawing: the dots of document 01's figures, letters and blocks, all letters under each text look, each refusal, and whole frames by their sums.
+// Tries drawing: the dots of document 01's figures, letters, blocks and external text, all letters under each text look, each refusal, and whole frames by their sums.
 // Prints a line for each.
 use settings::Look;
 use trial::answered;
@@ -108,6 +108,21 @@ fn blocks(font: &[u8]) {
     dots_of(0, 0x01, 0xFF, 0, font);
 }
 
+// External text: its first and last byte, on each side of DD6, GM0 without effect, exchanged by GM1, in orange; and a byte of 128.
+fn external(font: &[u8]) {
+    dots_of(0, 0x10, 0x01, 0, font);
+    dots_of(0, 0x10, 0x00, 0, font);
+    dots_of(0, 0x10, 0x3F, 11, font);
+    dots_of(0, 0x10, 0x40, 12, font);
+    dots_of(0, 0x10, 0x41, 0, font);
+    dots_of(0, 0x10, 0x7F, 191, font);
+    dots_of(0, 0x12, 0x01, 0, font);
+    dots_of(0, 0x12, 0x61, 0, font);
+    dots_of(0, 0x14, 0x41, 0, font);
+    dots_of(0, 0x11, 0x41, 0, font);
+    dots_of(0, 0x10, 0x80, 0, font);
+}
+
 // The figures of graphics, then blocks, letters and lower case.
 fn dots(font: &[u8]) {
     dots_of(10, 0x20, 0x1B, 0, font);
@@ -148,7 +163,7 @@ fn looks(from: usize, byte: usize, font: &[u8], strip: &[u8])
     look(from + 7, byte, font, strip);
 }
 
-// == All 128 letters under each of the sixteen text looks, by the sums of whole frames.
+// == All 128 letters under each of the text looks, by the sums of whole frames.
 
 // The sum of a frame of sixteen letters, one below the other, each on all its twelve rows.
 fn letters_sum(look: Look, first: u8, font: &[u8]) -> usize {
@@ -218,10 +233,9 @@ fn draw(pins: usize, font: usize, strip: usize, frame: usize, patterns: &[u8], b
     one(b", frame kept from #\n", unchanged_from(&buffer));
 }
 
-// The refusals of drawing in their order; the font's length is not asked for in graphics.
+// The refusals of internal text and graphics in their order; the font's length is not asked for in graphics.
 fn refusals(font: &[u8], bytes: &[u8]) {
     draw(0x40, 0, 0, 0, font, bytes);
-    draw(0x10, 0, 0, 0, font, bytes);
     draw(0x00, 1151, 0, 0, font, bytes);
     draw(0x00, 1153, 8192, 50000, font, bytes);
     draw(0x00, 1152, 6143, 0, font, bytes);
@@ -231,28 +245,61 @@ fn refusals(font: &[u8], bytes: &[u8]) {
     draw(0x00, 1152, 6144, 49152, font, bytes);
     draw(0x20, 0, 3072, 49152, font, bytes);
     draw(0x30, 1151, 8192, 50000, font, bytes);
+    draw(0x00, 3072, 8192, 50000, font, bytes);
 }
 
-// All of them; the font and the strip have bytes too many, to be refused or passed over.
-fn draws(font: &[u8], strip: &[u8]) {
-    let right = cut(font, 1152);
-    dots(right);
-    looks(0x20, 0x1B, right, strip);
-    looks(0x28, 0x1B, right, strip);
-    looks(0x00, 0x41, right, strip);
-    looks(0x08, 0x41, right, strip);
-    letters_looks(0x00, right);
-    letters_looks(0x08, right);
+// Those of external text, of a strip that has bytes of 128 or more.
+fn external_refusals(font: &[u8], bytes: &[u8]) {
+    draw(0x50, 0, 0, 0, font, bytes);
+    draw(0x10, 0, 0, 0, font, bytes);
+    draw(0x10, 1152, 8192, 50000, font, bytes);
+    draw(0x10, 3071, 8192, 50000, font, bytes);
+    draw(0x10, 3073, 8192, 50000, font, bytes);
+    draw(0x10, 3072, 6143, 0, font, bytes);
+    draw(0x10, 3072, 6144, 49151, font, bytes);
+    draw(0x10, 3072, 6144, 49152, font, bytes);
+    draw(0x1F, 3072, 8192, 50000, font, bytes);
+}
+
+// Graphics and internal text, by its font.
+fn own_draws(font: &[u8], strip: &[u8]) {
+    dots(font);
+    looks(0x20, 0x1B, font, strip);
+    looks(0x28, 0x1B, font, strip);
+    looks(0x00, 0x41, font, strip);
+    looks(0x08, 0x41, font, strip);
+    letters_looks(0x00, font);
+    letters_looks(0x08, font);
+}
+
+// External text, by the external character ROM, from a strip of letters.
+fn external_draws(rom: &[u8], strip: &[u8]) {
+    external(rom);
+    looks(0x10, 0x41, rom, strip);
+    looks(0x18, 0x41, rom, strip);
+    letters_looks(0x10, rom);
+    letters_looks(0x18, rom);
+}
+
+// All of them; the font and the strips have bytes too many, to be refused or passed over.
+fn draws(font: &[u8], strip: &[u8], letters: &[u8]) {
+    let own = cut(font, 1152);
+    let rom = cut(font, 3072);
+    own_draws(own, strip);
+    external_draws(rom, letters);
     refusals(font, strip);
+    external_refusals(font, strip);
 }
 
-// A font that is marked, by one more from pattern 64 on, so that no two patterns are alike, with a row of its own for pattern 1; and a
-// strip of varied bytes.
+// A font that is marked, by one more from each 64th pattern on, so that no two patterns are alike, with a row of its own for pattern 1; a
+// strip of varied bytes, and one whose first 6,144 bytes are letters.
 fn main() {
-    let mut font = [0u8; 1153];
+    let mut font = [0u8; 3073];
     let mut strip = [0u8; 8192];
+    let mut letters = [0u8; 8192];
     lay(&mut font, 131, 5, 768);
     font[12] = 0x18;
     lay(&mut strip, 0, 1, 61);
-    draws(&font, &strip);
+    lay(&mut letters, 0, 0, 61);
+    draws(&font, &strip, &letters);
 }

@@ -156,12 +156,14 @@ fn images(image: &[u8]) {
     fetch(0x2000, 0x20, 32768, 8192, image);
 }
 
-// Strip lengths, one byte short and just right; INT/EXT with A/G = 1; M, P, R0 and TY.
+// Strip lengths, one byte short and just right, of external text too, which fetching gives with bytes of 128 or more; INT/EXT with A/G = 1; M, P, R0 and TY.
 fn strips(image: &[u8]) {
     fetch(0x4000, 0x20, 65536, 3071, image);
     fetch(0x4000, 0x20, 65536, 3072, image);
     fetch(0x4000, 0x00, 65536, 6143, image);
     fetch(0x4000, 0x00, 65536, 6144, image);
+    fetch(0x4000, 0x10, 65536, 6143, image);
+    fetch(0x4000, 0x10, 65536, 6144, image);
     fetch(0x4000, 0x2E, 65536, 6143, image);
     fetch(0x4000, 0x30, 65536, 8192, image);
     fetch(0xEC00, 0x2E, 65536, 8192, image);
@@ -192,9 +194,10 @@ fn modes(word: usize, pins: usize, image: usize, bytes: &[u8])
     strip_sum(word + 7, pins, image, bytes);
 }
 
-// Text, then each graphics mode.
+// Text, internal and external, then each graphics mode.
 fn sums(bytes: &[u8]) {
     modes(0x4000, 0x00, 65536, bytes);
+    modes(0x4000, 0x10, 65536, bytes);
     modes(0x4000, 0x20, 65536, bytes);
     modes(0x4000, 0x22, 65536, bytes);
     modes(0x4000, 0x24, 65536, bytes);

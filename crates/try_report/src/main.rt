@@ -17,7 +17,7 @@ fn report(sheet: &[u8]) {
     say(cut(&bytes, text.len));
 }
 
-// The example, and with pins=10.
+// The example, and with pins=10, external text.
 fn example() {
     report(
         b"deed=K-104\npins=20\nwrites=3\nat=FFC1\nat=FFC9\nat=FFD6\nplan-note=north corner\ncolour=\n",
@@ -38,6 +38,7 @@ fn statuses() {
     report(b"deed=K\npins=10\nwrites=1\nat=FFD9\n");
     report(b"deed=K\npins=30\nwrites=1\nat=FFD3\n");
     report(b"deed=K\npins=06\nwrites=0\n");
+    report(b"deed=K\npins=1F\nwrites=0\n");
     report(b"deed=K\npins=2F\nwrites=0\n");
 }
 
@@ -77,6 +78,10 @@ fn after() {
     );
     report_after(lettered, Answer::At(Spot::Stray, 49152));
     report_after(lettered, Answer::At(Spot::BrokenSheet, 7));
+    report_after(
+        b"deed=K\npins=10\nwrites=0\na=b\n",
+        Answer::At(Spot::NotValid, 5791),
+    );
     report_after(
         b"deed=K\npins=40\nwrites=0\na=b\n",
         Answer::Unfit(Unfit::ImageLength),

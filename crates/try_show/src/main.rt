@@ -1,4 +1,4 @@
-// Tries both at once: each refusal, buffers of all lengths, and the ordinary pairs of modes by the sums of strip and frame.
+// Tries both at once: each refusal, buffers of all lengths, bytes that are not valid, and the ordinary pairs of modes by the sums of strip and frame.
 // Prints a line for each call.
 use answer::Answer;
 use trial::answered;
@@ -11,6 +11,7 @@ use trial::one;
 use trial::settings_of;
 use trial::sum;
 use trial::unchanged_from;
+ghost use Prim.Native.Nat.{_<_};
 
 // == Refusals and their order, with every buffer held against what it was before.
 
@@ -61,7 +62,7 @@ fn show(
     told_both(a, &fetched, &buffer);
 }
 
-// The refusals of both at once in their order.
+// The refusals of both at once in their order, of internal text and graphics.
 fn refusals(image: &[u8], font: &[u8]) {
     show(0x1000, 0x40, 65535, 0, 0, 0, image, font);
     show(0x5000, 0x40, 65536, 1152, 8192, 50000, image, font);
@@ -75,6 +76,45 @@ fn refusals(image: &[u8], font: &[u8]) {
     show(0x4000, 0x00, 65536, 1152, 6144, 49151, image, font);
     show(0x4000, 0x00, 65536, 1152, 6144, 49152, image, font);
     show(0x4000, 0x20, 65536, 0, 8192, 50000, image, font);
+}
+
+// Those of external text, of an image that has bytes of 128 or more in its window.
+fn external_refusals(image: &[u8], font: &[u8]) {
+    show(0x1000, 0x50, 65535, 0, 0, 0, image, font);
+    show(0x0000, 0x10, 65535, 0, 0, 0, image, font);
+    show(0x4000, 0x10, 65536, 1152, 0, 0, image, font);
+    show(0x4000, 0x10, 65536, 3072, 6143, 0, image, font);
+    show(0x4000, 0x10, 65536, 3072, 6144, 49151, image, font);
+    show(0x4000, 0x10, 65536, 3072, 6144, 49152, image, font);
+    show(0x4000, 0x1F, 65536, 3072, 8192, 50000, image, font);
+}
+
+// == Bytes that external text does not show.
+
+// Both at once of an image of letters that has another byte at two places.
+fn marred(word: usize, pins: usize, byte: u8, first: usize, second: usize, font: &[u8])
+    requires { ⌜ (first < 4096) × (second < 4096) ⌝ }
+{
+    let mut image = [0u8; 4096];
+    lay(&mut image, b'A', 0, 0);
+    image[first] = byte;
+    image[second] = byte;
+    form(b"byte % at # and #, ", &[byte as usize, first, second]);
+    show(word, pins, 4096, font.len(), 6144, 49152, &image, font);
+}
+
+// In the window, where the first fetch is told, and beside it; with windows elsewhere and one that comes round; and in internal text.
+fn not_valid(own: &[u8], rom: &[u8]) {
+    marred(0x0000, 0x10, 0x80, 0, 511, rom);
+    marred(0x0000, 0x10, 0xFF, 511, 31, rom);
+    marred(0x0000, 0x10, 0x80, 511, 511, rom);
+    marred(0x0000, 0x10, 0x80, 512, 4095, rom);
+    marred(0x0008, 0x10, 0x80, 511, 1024, rom);
+    marred(0x0008, 0x10, 0x80, 512, 511, rom);
+    marred(0x0006, 0x1F, 0x80, 2047, 2048, rom);
+    marred(0x003E, 0x10, 0x80, 0, 3583, rom);
+    marred(0x0000, 0x10, 0x7F, 0, 511, rom);
+    marred(0x0000, 0x00, 0x80, 0, 511, own);
 }
 
 // == The ordinary pairs of modes.
@@ -113,12 +153,23 @@ fn pairs(image: &[u8], font: &[u8]) {
     pair(0x4006, 0x2E, 6144, image, font);
 }
 
-// An image and a font of varied bytes.
+// All of them, by the internal font and the external character ROM.
+fn shows(image: &[u8], letters: &[u8], font: &[u8]) {
+    let own = cut(font, 1152);
+    refusals(image, own);
+    external_refusals(image, font);
+    not_valid(own, font);
+    pairs(image, own);
+    pair(0x4000, 0x10, 6144, letters, font);
+}
+
+// An image and a font of varied bytes, and an image whose first 640 bytes are letters.
 fn main() {
     let mut image = [0u8; 65536];
-    let mut font = [0u8; 1152];
+    let mut letters = [0u8; 65536];
+    let mut font = [0u8; 3072];
     lay(&mut image, 0, 1, 61);
+    lay(&mut letters, 0, 0, 5);
     mark(&mut font);
-    refusals(&image, &font);
-    pairs(&image, &font);
+    shows(&image, &letters, &font);
 }

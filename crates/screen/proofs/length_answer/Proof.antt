@@ -18,9 +18,6 @@ cast-t9 c = search needs
 pins-above-requires : tie.Need-pins-above-requires
 pins-above-requires c κs = search needs
 
-external-text-requires : tie.Need-external-text-requires
-external-text-requires c κs = search needs
-
 fast-rate-requires : tie.Need-fast-rate-requires
 fast-rate-requires c κs = search needs
 
@@ -38,7 +35,7 @@ short-frame-requires c κs = search needs
 
 returns : tie.Need-returns
 returns c =
-    let b = c .before .before .before .before .before .before .before in
+    let b = c .before .before .before .before .before .before in
     let a = b .before .before .args in
     let s = a .settings in
     let e : toldOf (c .short-frame .result) ≡ afterEach (showLengths s (a .image) (a .font) (a .strip) (a .frame)) (done (border (s .look))) = cc in
@@ -51,7 +48,6 @@ length-answer-spec =
     border-requires
     cast-t9
     pins-above-requires
-    external-text-requires
     fast-rate-requires
     image-length-requires
     font-length-requires

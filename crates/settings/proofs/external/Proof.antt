@@ -3,6 +3,9 @@ use borrow.Author.Needs.{needs}
 use Rattle.settings.proofs.external.Statement.{statement}
 use Rattle.settings.proofs.external.Tie as tie
 
+graphics-requires : tie.Need-graphics-requires
+graphics-requires c κs = search needs
+
 cast-field : tie.Need-cast-field
 cast-field c = search needs
 
@@ -10,7 +13,7 @@ field-requires : tie.Need-field-requires
 field-requires c κs = search needs
 
 returns : tie.Need-returns
-returns c = rw (c .field .ensures)
+returns c = rw (c .before .before .graphics .ensures, c .field .ensures)
 
 pub external-spec : {M : Type 1} → statement M
-external-spec = tie.close (tie.spec cast-field field-requires returns)
+external-spec = tie.close (tie.spec graphics-requires cast-field field-requires returns)

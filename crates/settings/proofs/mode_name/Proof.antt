@@ -20,15 +20,22 @@ returns : tie.Need-returns
 unfolding modeName
 returns c = simp (rw (c .before .graphics .ensures) at (c .if1 .taken), c .before .before .gm .ensures)
 
-cast-t14 : tie.Need-cast-t14
-cast-t14 c = search needs
-
-add-t15 : tie.Need-add-t15
-add-t15 c = search needs
+external-requires : tie.Need-external-requires
+external-requires c κs = search needs
 
 returns-2 : tie.Need-returns-2
 unfolding modeName
-returns-2 c = simp (rw (c .before .graphics .ensures) at (c .if1 .left), c .before .before .gm .ensures)
+returns-2 c = rw (rw (c .before .external .ensures) at (c .if2 .taken)) (simp (rw (c .before .before .before .graphics .ensures) at (c .before .before .if1 .left)))
+
+cast-t16 : tie.Need-cast-t16
+cast-t16 c = search needs
+
+add-t17 : tie.Need-add-t17
+add-t17 c = search needs
+
+returns-3 : tie.Need-returns-3
+unfolding modeName
+returns-3 c = rw (rw (c .before .external .ensures) at (c .if2 .left)) (simp (rw (c .before .before .before .graphics .ensures) at (c .before .before .if1 .left), c .before .before .before .before .gm .ensures))
 
 pub mode-name-spec : {M : Type 1} → statement M
 mode-name-spec =
@@ -39,6 +46,8 @@ mode-name-spec =
     array-read-t7
     array-read-t11
     returns
-    cast-t14
-    add-t15
-    returns-2)
+    external-requires
+    returns-2
+    cast-t16
+    add-t17
+    returns-3)

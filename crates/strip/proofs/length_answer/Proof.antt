@@ -15,9 +15,6 @@ strip-length-requires c κs = search needs
 pins-above-requires : tie.Need-pins-above-requires
 pins-above-requires c κs = search needs
 
-external-text-requires : tie.Need-external-text-requires
-external-text-requires c κs = search needs
-
 fast-rate-requires : tie.Need-fast-rate-requires
 fast-rate-requires c κs = search needs
 
@@ -29,7 +26,7 @@ short-strip-requires c κs = search needs
 
 returns : tie.Need-returns
 returns c =
-    let a = c .before .before .before .before .before .before .before .args in
+    let a = c .before .before .before .before .before .before .args in
     let s = a .settings in
     let e : toldOf (c .short-strip .result) ≡ afterEach (fetchLengths s (a .image) (a .strip)) (done (stripLength (s .look))) = cc in
     e ∙ in-order (done (stripLength (s .look))) refl (fetchLengths s (a .image) (a .strip)) tt
@@ -40,7 +37,6 @@ length-answer-spec =
     (tie.spec
     strip-length-requires
     pins-above-requires
-    external-text-requires
     fast-rate-requires
     image-length-requires
     short-strip-requires

@@ -12,7 +12,7 @@ use Rattle.frame.proofs.letters.letter.Tie as tie
 
 -- the row lies within the font
 within : (c : tie.After-pattern) → let s = c .before .before in (pattern (s .args .look) (s .args .b) * 12 + s .args .row < fontSize (s .args .look)) × (fontSize (s .args .look) ≤ 3072)
-within c = let s = c .before .before in (pattern-fits (s .args .look) (s .args .b) (s .args .row) (s .pre .1), font-small (s .args .look))
+within c = let s = c .before .before in (pattern-fits (s .args .look) (s .args .b) (s .args .row) (omega arith) (s .pre .1), font-small (s .args .look))
 
 pattern-requires : tie.Need-pattern-requires
 pattern-requires c κs = search needs

@@ -1,0 +1,2 @@
+-- Which bytes external text does not show.
+pub mod Valid
