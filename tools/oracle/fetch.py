@@ -1,6 +1,7 @@
-"""Which bytes are fetched: the counter with its two dividers, its addresses, and the strip."""
+"""Which bytes are fetched: the counter with its two dividers, its addresses under either fetch rule, and the strip."""
 
-from pins import width
+from pins import bit as pin
+from pins import is_graphics, width
 from word import bit, sam_mode
 
 LINES = 192
@@ -17,12 +18,40 @@ SAM_MODES = (
     (1, 1, ()),
 )
 
+# Document 003's table of modes in its order: G/A, GM2, GM1, GM0 or EXT/INT, CSS, then V2, V1, V0. X is either.
+MODE_TABLE = (
+    "0XX0X000",  # Internal Alphanumerics
+    "0XX1X000",  # External Alphanumerics
+    "0XX0X000",  # Semigraphics 4
+    "0XX1X000",  # Semigraphics 6
+    "0XX0X010",  # Semigraphics 8
+    "0XX0X100",  # Semigraphics 12
+    "0XX0X110",  # Semigraphics 24
+    "1000X001",  # Full Graphics 1C
+    "1001X001",  # Full Graphics 1R
+    "1010X010",  # Full Graphics 2C
+    "1011X011",  # Full Graphics 2R
+    "1100X100",  # Full Graphics 3C
+    "1101X101",  # Full Graphics 3R
+    "1110X110",  # Full Graphics 6C
+    "1111X110",  # Full Graphics 6R
+    "XXXXX111",  # Direct Memory Access
+)
+
+
+def paired(word, pins):
+    """Whether a row of document 003's table pairs the pins with the SAM mode. In its fourth column text has INT/EXT, and graphics GM0."""
+    fourth = "GM0" if is_graphics(pins) else "INT/EXT"
+    found = [pin(pins, name) for name in ("A/G", "GM2", "GM1", fourth, "CSS")] + [bit(word, name) for name in ("V2", "V1", "V0")]
+    return any(all(said in ("X", str(value)) for said, value in zip(row, found)) for row in MODE_TABLE)
+
 
 class Counter:
-    """B0 to B15 and the X and Y dividers."""
+    """B0 to B15 and the X and Y dividers, under a fetch rule, 1 or 2."""
 
-    def __init__(self, word):
+    def __init__(self, word, rule):
         """At the start B9-B15 are F0-F6, and all else is 0."""
+        self.rule = rule
         self.x, self.y, self.cleared = SAM_MODES[sam_mode(word)]
         self.b = [0] * 9 + [bit(word, "F%d" % i) for i in range(7)]
         self.x_divider = 0
@@ -62,14 +91,20 @@ class Counter:
             self.count_up(5, 15)
 
     def end_line(self):
-        """At the end of each line bits are cleared. This counts on no divider."""
+        """At the end of each line bits are cleared. Under rule 1 this counts on no divider.
+
+        Under rule 2 (CR 6) clearing a set B4 counts on the Y divider as B4's falling does.
+        """
+        was_set = self.b[4] == 1
         for i in self.cleared:
             self.b[i] = 0
+        if self.rule == 2 and was_set and self.b[4] == 0:
+            self.count_y()
 
 
-def addresses(word, pins):
+def addresses(word, pins, rule=1):
     """The address of every byte of the strip: 192 lines of W bytes, in order."""
-    counter = Counter(word)
+    counter = Counter(word, rule)
     found = []
     for _ in range(LINES):
         for _ in range(width(pins)):
@@ -84,6 +119,6 @@ def image_place(image, address):
     return address % len(image)
 
 
-def strip(word, pins, image):
+def strip(word, pins, image, rule=1):
     """The bytes in fetched order, repeats included."""
-    return bytes(image[image_place(image, address)] for address in addresses(word, pins))
+    return bytes(image[image_place(image, address)] for address in addresses(word, pins, rule))

@@ -1,4 +1,4 @@
-"""Figures to check by: document 01's own, figures of CR 1 counted by hand, the case of CR 2 with what it says of the other letters, figures of CR 5 counted by hand, and those of the standards that a picture file goes by, held against these modules."""
+"""Figures to check by: document 01's own, figures of CR 1 counted by hand, the case of CR 2 with what it says of the other letters, figures of CR 5 counted by hand, the case of CR 6 with sheets and addresses counted by hand, and those of the standards that a picture file goes by, held against these modules."""
 
 import zlib
 
@@ -15,9 +15,9 @@ import word
 TEXT, CG1, RG6 = 0x00, 0x20, 0x2E
 
 
-def address(control, pin_byte, line, byte):
+def address(control, pin_byte, line, byte, rule=1):
     """The address of a line's byte."""
-    return fetch.addresses(control, pin_byte)[line * pins.width(pin_byte) + byte]
+    return fetch.addresses(control, pin_byte, rule)[line * pins.width(pin_byte) + byte]
 
 
 def drawn(pin_byte, byte, line, font=bytes(1152)):
@@ -167,25 +167,76 @@ def refusals():
 
 
 def longest_sheet():
-    """The length that document 01 gives the longest sheet, which is accepted."""
+    """The length that document 01 gives the longest sheet, and CR 6 the longest with a rule; both are accepted."""
     fixed = b"deed=" + b"A" * 16 + b"\npins=FF\nwrites=64\n" + b"at=FFC0\n" * 64
     longest = fixed + (b"k" * 16 + b"=" + b"v" * 120 + b"\n") * 200
-    yield "longest sheet", (len(longest), sheet.read(longest).number), (28152, 0)
+    yield "longest sheet without a rule", (len(longest), sheet.read(longest).number), (28152, 0)
+    longest = longest.replace(b"\nwrites=", b"\nrule=2\nwrites=", 1)
+    yield "longest sheet", (len(longest), sheet.read(longest).number), (28159, 0)
 
 
 def reports():
-    """The report's example, and with pins=10, which CR 5 makes status 0."""
+    """The report's example, and with pins=10, which CR 5 makes status 0; CR 6 adds the rule after control."""
     example = (
         b"deed=K-104\npins=20\nwrites=3\nat=FFC1\nat=FFC9\nat=FFD6\n"
         b"plan-note=north corner\ncolour=\n"
     )
     yield "report", report.text(example), (
-        b"status=0\ndeed=K-104\npins=20\ncontrol=0011\nmode=CG1\nstart=0400\n"
+        b"status=0\ndeed=K-104\npins=20\ncontrol=0011\nrule=1\nmode=CG1\nstart=0400\n"
         b"annotations=2\nplan-note=north corner\ncolour=\n"
     )
     yield "report pins=10", report.text(example.replace(b"pins=20", b"pins=10")), (
-        b"status=0\ndeed=K-104\npins=10\ncontrol=0011\nmode=EXT\nstart=0400\n"
+        b"status=0\ndeed=K-104\npins=10\ncontrol=0011\nrule=1\nmode=EXT\nstart=0400\n"
         b"annotations=2\nplan-note=north corner\ncolour=\n"
+    )
+
+
+def rule_addresses():
+    """CR 6: its case, and others counted by hand; where the rules agree, for all pins but CSS and all SAM modes.
+
+    A line of 16 bytes leaves B4 set where X is 1, so with B4 cleared each line counts on the Y divider: a row of 32 places lasts Y lines.
+    """
+    yield "P8 under rule 2", address(0x0000, CG1, 100, 0, 2), 0x0100
+    yield "rule 2, before the Yth line", address(0x0000, CG1, 11, 15, 2), 0x000F
+    yield "rule 2, after the Yth line", address(0x0000, CG1, 12, 0, 2), 0x0020
+    yield "rule 2, Y = 3", address(0x0002, CG1, 191, 15, 2), 0x07EF
+    yield "rule 2, Y = 1", address(0x0006, CG1, 191, 0, 2), 0x17E0
+    yield "rule 2, past FFFF", address(0x03FE, CG1, 16, 0, 2), 0x0000
+    yield "rule 2, B4 kept", address(0x0001, CG1, 191, 15, 2), 0x03FF
+    yield "rule 2, B4 not set", address(0x0000, TEXT, 191, 31, 2), 0x01FF
+    for pin_byte in range(0, 64, 2):
+        for control in range(8):
+            alike = fetch.addresses(control, pin_byte, 1) == fetch.addresses(control, pin_byte, 2)
+            said = pins.width(pin_byte) == 32 or control in (1, 3, 5, 7)
+            yield "rules alike", (control, pin_byte, alike), (control, pin_byte, said)
+            if fetch.paired(control, pin_byte):
+                yield "rules alike where they are paired", (control, pin_byte, alike), (control, pin_byte, True)
+
+
+def rule_sheets():
+    """CR 6: sheets with a rule and without, the places of broken ones, and the report's line."""
+    head, rest = b"deed=K\npins=20\n", b"writes=0\n"
+    for line, said in ((b"", (0, 0, 1)), (b"rule=1\n", (0, 0, 1)), (b"rule=2\n", (0, 0, 2))):
+        found = sheet.read(head + line + rest)
+        yield "rule", (line, (found.number, found.place, found.rule)), (line, said)
+    for line, place in (
+        (b"rule=3\n", 5),
+        (b"rule=0\n", 5),
+        (b"rule=\n", 5),
+        (b"rule=12\n", 6),
+        (b"rule=2\nrule=2\n", 7),
+        (b"rules=1\n", 4),
+    ):
+        yield "broken rule", (line, sheet.read(head + line + rest)[:2]), (line, (11, len(head) + place))
+    for cut in (b"r", b"rul", b"rule=", b"rule=2", b"rule=2\n"):
+        yield "cut rule", (cut, sheet.read(head + cut)[:2]), (cut, (11, len(head + cut)))
+    yield "rule before pins", sheet.read(b"deed=K\nrule=1\npins=20\nwrites=0\n")[:2], (11, 7)
+    noted = sheet.read(head + b"rule=2\n" + rest + b"rule=3\nrule=\n")
+    yield "rule as a key", (noted.number, noted.rule, noted.annotations), (0, 2, [b"rule=3", b"rule="])
+    broken = sheet.read(head + b"rule=2\n" + b"writes=65\n")
+    yield "rule of a broken sheet", (broken.number, broken.rule), (11, 1)
+    yield "report of rule 2", report.text(head + b"rule=2\n" + rest), (
+        b"status=0\ndeed=K\npins=20\ncontrol=0000\nrule=2\nmode=CG1\nstart=0000\nannotations=0\n"
     )
 
 
@@ -254,6 +305,7 @@ CHAPTERS = {
     "CR 1": (covers,),
     "CR 2": (lower_case,),
     "CR 5": (external, not_valid),
+    "CR 6": (rule_addresses, rule_sheets),
     "the picture file": (checks, picture_files),
 }
 

@@ -45,7 +45,7 @@ REPORT = (11, 10, 1, 4)
 
 def drawn_bytes(lent):
     """The bytes that are drawn: those of the strip that is lent, and where an image is lent those that are fetched from it."""
-    return fetched(lent.word, lent.pins, lent.image) if hasattr(lent, "image") else lent.strip
+    return fetched(lent.word, lent.pins, lent.image, lent.rule) if hasattr(lent, "image") else lent.strip
 
 
 def told(order, lent):
@@ -62,15 +62,15 @@ def store(buffer, content):
 
 
 # Each operation stores in the buffers that it is lent (bytearrays) and tells (number, place, value).
-# A refusal stores nothing and has the value 0.
+# A refusal stores nothing and has the value 0. Where no rule is named it is rule 1.
 
 
-def fetch(word, pins, image, strip):
+def fetch(word, pins, image, strip, rule=1):
     """Fetches the strip. The value is its length."""
-    number, place = told(FETCHING, Lent(word=word, pins=pins, image=image, strip=strip))
+    number, place = told(FETCHING, Lent(word=word, pins=pins, rule=rule, image=image, strip=strip))
     if number != 0:
         return number, place, 0
-    content = fetched(word, pins, image)
+    content = fetched(word, pins, image, rule)
     store(strip, content)
     return 0, 0, len(content)
 
@@ -84,13 +84,13 @@ def draw(pins, font, strip, frame):
     return 0, 0, border(pins)
 
 
-def show(word, pins, image, font, strip, frame):
+def show(word, pins, image, font, strip, frame, rule=1):
     """Both at once: fetches the strip and draws the frame from it. The value is the border."""
-    lent = Lent(word=word, pins=pins, image=image, font=font, strip=strip, frame=frame)
+    lent = Lent(word=word, pins=pins, rule=rule, image=image, font=font, strip=strip, frame=frame)
     number, place = told(BOTH, lent)
     if number != 0:
         return number, place, 0
-    content = fetched(word, pins, image)
+    content = fetched(word, pins, image, rule)
     store(strip, content)
     store(frame, frame_of(pins, font, content))
     return 0, 0, border(pins)

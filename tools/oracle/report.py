@@ -56,12 +56,13 @@ def notes(found):
 
 def success(found, control):
     """The lines of a report with status 0. `start` is the first address."""
-    start = fetch.addresses(control, found.pins)[0]
+    start = fetch.addresses(control, found.pins, found.rule)[0]
     return [
         field("status", b"0"),
         field("deed", found.deed),
         field("pins", b"%02X" % found.pins),
         field("control", b"%04X" % control),
+        field("rule", b"%d" % found.rule),
         field("mode", pins.mode(found.pins).encode()),
         field("start", b"%04X" % start),
     ] + notes(found)

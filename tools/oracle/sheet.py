@@ -3,7 +3,7 @@
 from collections import namedtuple
 
 # What reading a sheet yields. `annotations` holds the lines without their byte 10.
-Sheet = namedtuple("Sheet", "number place deed pins writes annotations")
+Sheet = namedtuple("Sheet", "number place deed pins rule writes annotations")
 
 LINE_END = 10
 EQUALS = ord("=")
@@ -15,6 +15,7 @@ DEED = frozenset(b"ABCDEFGHIJKLMNOPQRSTUVWXYZ0123456789-")
 HEX = frozenset(b"0123456789ABCDEF")
 KEY = frozenset(b"abcdefghijklmnopqrstuvwxyz-")
 VALUE = frozenset(range(256)) - {LINE_END}
+RULES = frozenset(b"12")
 NOTHING = frozenset()
 
 NUMERALS = [b"%d" % n for n in range(65)]
@@ -73,6 +74,18 @@ def key(first):
         found += bytes([byte])
 
 
+def rule_and_writes():
+    """`rule=1` or `rule=2` (CR 6), where it is given, and `writes=`. Returns the rule; without the line it is 1."""
+    first = yield {ord("r"), ord("w")}
+    if first == ord("w"):
+        yield from words(b"rites=")
+        return 1
+    yield from words(b"ule=")
+    rule = yield from closed(RULES, 1, 1)
+    yield from words(b"writes=")
+    return int(rule)
+
+
 def write():
     """One `at=` line. Returns its address."""
     yield from words(b"at=")
@@ -99,18 +112,18 @@ def whole():
     deed = yield from closed(DEED, 1, 16)
     yield from words(b"pins=")
     pins = yield from closed(HEX, 2, 2)
-    yield from words(b"writes=")
+    rule = yield from rule_and_writes()
     count = yield from numeral()
     writes = []
     for _ in range(count):
         writes.append((yield from write()))
     lines = yield from annotations()
-    return Sheet(0, 0, deed, int(pins, 16), writes, lines)
+    return Sheet(0, 0, deed, int(pins, 16), rule, writes, lines)
 
 
 def refused(place):
     """What a refused sheet yields."""
-    return Sheet(11, place, b"", 0, [], [])
+    return Sheet(11, place, b"", 0, 1, [], [])
 
 
 def read(sheet):

@@ -75,6 +75,11 @@ def figure_name(figure):
     return "P%d " % figure if figure else ""
 
 
+def rule_name(rule):
+    """The rule that a line is under, if it is not the first."""
+    return "rule 2 " if rule == 2 else ""
+
+
 def escape(byte):
     """A byte so that it can be read."""
     if byte == 10:
@@ -119,20 +124,20 @@ def try_control():
 # == try_fetch
 
 
-def fetched(control, pin_byte, image, place):
+def fetched(control, pin_byte, image, place, rule):
     """The byte at a place of the strip that is fetched from an image."""
     strip = bytearray(6144)
-    numbers.fetch(control, pin_byte, image, strip)
+    numbers.fetch(control, pin_byte, image, strip, rule)
     return strip[place]
 
 
-def address_line(figure, control, pin_byte, line, byte):
+def address_line(figure, control, pin_byte, line, byte, rule=1):
     """The address of a line's byte by the counter, and by what is fetched, with M1 set, from two images that tell their addresses."""
     place = line * pins.width(pin_byte) + byte
-    address = fetch.addresses(control, pin_byte)[place]
-    low = fetched(control | 0x4000, pin_byte, tell(65536), place)
-    high = fetched(control | 0x4000, pin_byte, tell(65536, 256), place)
-    asked = "word %04X pins %02X line %d byte %d" % (control, pin_byte, line, byte)
+    address = fetch.addresses(control, pin_byte, rule)[place]
+    low = fetched(control | 0x4000, pin_byte, tell(65536), place, rule)
+    high = fetched(control | 0x4000, pin_byte, tell(65536, 256), place, rule)
+    asked = rule_name(rule) + "word %04X pins %02X line %d byte %d" % (control, pin_byte, line, byte)
     return "%s%s: address %04X, fetched %02X%02X" % (figure_name(figure), asked, address, high, low)
 
 
@@ -150,11 +155,28 @@ def addresses_lines():
     yield address_line(9, 0x0001, 0x00, 1, 16)
 
 
-def fetch_line(control, pin_byte, image_length, strip_length):
+def rule_2_lines():
+    """P8 and its neighbours under rule 2, each other Y, a window that comes round, B4 kept and B4 not set; then a refusal, and strips one byte short and just right."""
+    yield address_line(8, 0x0000, 0x20, 100, 0, rule=2)
+    yield address_line(0, 0x0000, 0x20, 11, 15, rule=2)
+    yield address_line(0, 0x0000, 0x20, 12, 0, rule=2)
+    yield address_line(0, 0x0002, 0x22, 191, 15, rule=2)
+    yield address_line(0, 0x0004, 0x26, 191, 15, rule=2)
+    yield address_line(0, 0x0006, 0x2A, 191, 0, rule=2)
+    yield address_line(0, 0x03FE, 0x20, 16, 0, rule=2)
+    yield address_line(0, 0x0001, 0x20, 191, 15, rule=2)
+    yield address_line(0, 0x0000, 0x00, 191, 31, rule=2)
+    yield address_line(0, 0x0001, 0x00, 1, 16, rule=2)
+    yield fetch_line(0x5000, 0x20, 65536, 8192, rule=2)
+    yield fetch_line(0x4000, 0x20, 65536, 3071, rule=2)
+    yield fetch_line(0x4000, 0x20, 65536, 3072, rule=2)
+
+
+def fetch_line(control, pin_byte, image_length, strip_length, rule=1):
     """Fetches to a marked strip, of buffers as long as told."""
     strip = mark(8192)
-    answer = numbers.fetch(control, pin_byte, tell(65536)[:image_length], room(strip, strip_length))
-    asked = "fetch word %04X pins %02X image %d strip %d" % (control, pin_byte, image_length, strip_length)
+    answer = numbers.fetch(control, pin_byte, tell(65536)[:image_length], room(strip, strip_length), rule)
+    asked = rule_name(rule) + "fetch word %04X pins %02X image %d strip %d" % (control, pin_byte, image_length, strip_length)
     return asked + told(answer) + ", strip kept from %d" % kept_from(strip)
 
 
@@ -189,34 +211,36 @@ def lengths_lines():
     yield fetch_line(0xEC00, 0x2E, 65536, 8192)
 
 
-def strip_sum_lines(control, pin_byte, image_length):
+def strip_sum_lines(control, pin_byte, image_length, rule):
     """Every SAM mode from a word on: the sum of the whole strip of an image as long as told."""
     for mode in range(8):
         strip = bytearray(6144)
-        answer = numbers.fetch(control + mode, pin_byte, vary(image_length), strip)
-        asked = "strip word %04X pins %02X image %d" % (control + mode, pin_byte, image_length)
+        answer = numbers.fetch(control + mode, pin_byte, vary(image_length), strip, rule)
+        asked = rule_name(rule) + "strip word %04X pins %02X image %d" % (control + mode, pin_byte, image_length)
         yield asked + told(answer) + ", sum %d" % total(strip[:answer[2]])
 
 
-def strips_lines():
+def strips_lines(rule):
     """Text, internal and external, and each graphics mode, then starts 512 bytes before FFFF is passed or before an image's end."""
     for pin_byte in (0x00, 0x10, 0x20, 0x22, 0x24, 0x26, 0x28, 0x2A, 0x2C, 0x2E):
-        yield from strip_sum_lines(0x4000, pin_byte, 65536)
-    yield from strip_sum_lines(0x43F8, 0x20, 65536)
-    yield from strip_sum_lines(0x43F8, 0x2E, 65536)
-    yield from strip_sum_lines(0x03F8, 0x2E, 4096)
-    yield from strip_sum_lines(0x0038, 0x2E, 4096)
-    yield from strip_sum_lines(0x0078, 0x20, 8192)
-    yield from strip_sum_lines(0x20F8, 0x2E, 16384)
-    yield from strip_sum_lines(0x21F8, 0x00, 32768)
+        yield from strip_sum_lines(0x4000, pin_byte, 65536, rule)
+    yield from strip_sum_lines(0x43F8, 0x20, 65536, rule)
+    yield from strip_sum_lines(0x43F8, 0x2E, 65536, rule)
+    yield from strip_sum_lines(0x03F8, 0x2E, 4096, rule)
+    yield from strip_sum_lines(0x0038, 0x2E, 4096, rule)
+    yield from strip_sum_lines(0x0078, 0x20, 8192, rule)
+    yield from strip_sum_lines(0x20F8, 0x2E, 16384, rule)
+    yield from strip_sum_lines(0x21F8, 0x00, 32768, rule)
 
 
 def try_fetch():
-    """Addresses, refusals and lengths, and whole strips."""
+    """Addresses, refusals and lengths, and whole strips; then rule 2: addresses, and the same strips."""
     yield from addresses_lines()
     yield from fetches_lines()
     yield from lengths_lines()
-    yield from strips_lines()
+    yield from strips_lines(1)
+    yield from rule_2_lines()
+    yield from strips_lines(2)
 
 
 # == try_valid
@@ -463,11 +487,11 @@ def marred_screens_lines():
     yield marred_screen_line(0x0000, 0x00, 0x80, 0, 511)
 
 
-def pair_line(control, pin_byte, image):
+def pair_line(control, pin_byte, image, rule=1):
     """An ordinary pair of modes: the sums of strip and frame."""
     strip, frame = bytearray(192 * pins.width(pin_byte)), bytearray(49152)
-    answer = numbers.show(control, pin_byte, image, mark(draw.font_length(pin_byte)), strip, frame)
-    asked = "show word %04X pins %02X" % (control, pin_byte)
+    answer = numbers.show(control, pin_byte, image, mark(draw.font_length(pin_byte)), strip, frame, rule)
+    asked = rule_name(rule) + "show word %04X pins %02X" % (control, pin_byte)
     return asked + told(answer) + ", strip sum %d, frame sum %d" % (total(strip), total(frame))
 
 
@@ -476,7 +500,7 @@ PAIRS = ((0, 0x00), (1, 0x20), (1, 0x22), (2, 0x24), (3, 0x26), (4, 0x28), (5, 0
 
 
 def try_show():
-    """Both at once: refusals, bytes that are not valid, the ordinary pairs of modes, and external text.
+    """Both at once: refusals, bytes that are not valid, the ordinary pairs of modes, external text, and pairs under rule 2, ordinary ones and others.
 
     Of the image that external text is shown from, the window's 512 bytes are letters: bytes beside it are not.
     """
@@ -485,6 +509,8 @@ def try_show():
     for mode, pin_byte in PAIRS:
         yield pair_line(0x4000 + mode, pin_byte, vary(65536))
     yield pair_line(0x4000, 0x10, tell(65536, 5))
+    for control, pin_byte in ((0x4000, 0x00), (0x4001, 0x20), (0x4000, 0x20), (0x4006, 0x26)):
+        yield pair_line(control, pin_byte, vary(65536), rule=2)
 
 
 # == try_back
@@ -539,7 +565,7 @@ def read_line(given):
     found = sheet.read(given)
     count = len(found.annotations)
     line = number_and_place(found[:2])
-    line += " pins %02X writes %d annotations %d" % (found.pins, len(found.writes), count)
+    line += " pins %02X rule %d writes %d annotations %d" % (found.pins, found.rule, len(found.writes), count)
     line += " deed " + quoted(found.deed)
     line += " first " + quoted(sheet.annotation(given, 0))
     if count > 0:
@@ -568,6 +594,8 @@ def heads_lines():
     head = b"deed=K\npins=20\n"
     yield from corner_lines(head, b"writes=65\n", b"writes=00\n", b"writes=07\n", b"writes=7x\n")
     yield from corner_lines(head, b"writes=\n", b"writes=640\n")
+    yield from corner_lines(head, b"rule=1\nwrites=0\n", b"rule=2\nwrites=0\n", b"rule=2\nwrites=0\nrule=3\n", b"rule=2\nrule=2\nwrites=0\n")
+    yield from corner_lines(head, b"rule=0\nwrites=0\n", b"rule=3\n", b"rule=\n", b"rule=12\n", b"rules=1\n", b"rul", b"rule=2", b"rule=2\nwrites=65\n")
     head += b"writes=1\n"
     yield from corner_lines(head, b"colour=\n", b"a-=\n", b"at=FFc1\n", b"at=FFC1\n", b"")
 
@@ -590,6 +618,9 @@ def longs_lines():
     yield long_line(head, 0, 1, 0, 201, 0)
     yield long_line(head, 0, 1, 0, 200, 0)
     head = b"deed=----------------\npins=FF\nwrites=64\n"
+    yield long_line(head, 64, 16, 120, 200, 0)
+    yield long_line(head, 64, 16, 120, 200, 1)
+    head = b"deed=----------------\npins=FF\nrule=2\nwrites=64\n"
     yield long_line(head, 64, 16, 120, 200, 0)
     yield long_line(head, 64, 16, 120, 200, 1)
 
@@ -617,9 +648,13 @@ REPORTED = (
     b"deed=K\npins=06\nwrites=0\n",
     b"deed=K\npins=1F\nwrites=0\n",
     b"deed=K\npins=2F\nwrites=0\n",
+    b"deed=K\npins=20\nrule=1\nwrites=0\n",
+    b"deed=K\npins=20\nrule=2\nwrites=1\nat=FFC9\nrule=1\n",
+    b"deed=K\npins=20\nrule=2\nwrites=1\nat=FFD9\na=b\n",
     b"",
     b"deed=k\n",
     b"deed=K\npins=2a\n",
+    b"deed=K\npins=20\nrule=3\n",
     b"deed=K\npins=20\nwrites=65\n",
     b"deed=K\npins=20\nwrites=1\nat=0\n",
     b"deed=K\npins=20\nwrites=0\nA=\n",
@@ -634,6 +669,7 @@ REPORTED_AFTER = (
     (b"deed=K\npins=20\nwrites=0\na=b\n", 9, 49152),
     (b"deed=K\npins=20\nwrites=0\na=b\n", 11, 7),
     (b"deed=K\npins=10\nwrites=0\na=b\n", 15, 5791),
+    (b"deed=K\npins=20\nrule=2\nwrites=0\na=b\n", 0, 0),
     (b"deed=K\npins=40\nwrites=0\na=b\n", 5, 0),
     (b"deed=k\n", 5, 0),
 )
@@ -887,7 +923,7 @@ def record(given, image):
     found = sheet.read(given)
     control = word.play(word.RESET, found.writes)[2]
     frame = bytearray(49152)
-    return numbers.show(control, found.pins, image, b"", bytearray(6144), frame), bytes(frame)
+    return numbers.show(control, found.pins, image, b"", bytearray(6144), frame, found.rule), bytes(frame)
 
 
 def example_tool(given, arguments):

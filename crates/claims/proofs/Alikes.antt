@@ -9,13 +9,19 @@ use borrow.Author.Tests.{lt-ltb, le-ltb, ltb-true, ltb-false}
 use lib.Dec.{eqb, ltb}
 use lib.ListN.{length, getD}
 use lib.Pow.{high, low, pow-pos, shr-shr}
+use contract.Lifetimes.{Lfts}
+use denote.Ref.{now}
 use Rattle.promises.specs.Choose.{choose}
 use Rattle.promises.specs.First.{firstWhere}
 use Rattle.promises.proofs.Choices.{by-test}
 use Rattle.promises.proofs.Fills.{written-by}
+use Rattle.answer.specs.declared.Answer.{Answer}
+use Rattle.answer.proofs.Answers.{one-answer}
 use Rattle.settings.specs.declared.Look.{Look}
+use Rattle.settings.specs.declared.Rule.{Rule}
+use Rattle.settings.specs.declared.Rule.the-variants.{One, Two}
 use Rattle.settings.specs.declared.Settings.{Settings}
-use Rattle.settings.specs.Fields.{videoMode, offset, fast, graphics, external, gm, gm2, gm1, gm0, css}
+use Rattle.settings.specs.Fields.{ruleNumber, under, videoMode, offset, fast, graphics, external, gm, gm2, gm1, gm0, css}
 use Rattle.settings.specs.Modes.{width, dots, border, fontSize}
 use Rattle.settings.specs.Refusals.{stripLength, frameLength}
 use Rattle.control.specs.Control.{withBit}
@@ -33,6 +39,7 @@ use Rattle.screen.specs.Show.{showTold, stripShown, frameShown}
 use Rattle.back.specs.Read.{values, readByte}
 use Rattle.back.specs.Stray.{shows, leftmost, stray, firstStray}
 use Rattle.back.specs.Back.{backPixels, backTold, stripBack}
+use Rattle.claims.proofs.Calls.{Lent, Fetches, Shows}
 
 -- of the pins: whether they are above 63, whether the text is external, A/G, GM2-GM0 and CSS
 pub record SameLook (l m : Look) : Type 0 where
@@ -99,40 +106,48 @@ module _ {l m : Look} (e : SameLook l m) where
   unfolding stripBack
   stripBack-alike frame strip = rw (backTold-alike frame strip, width-alike, written-by (stripLength m) strip (λ i _. readByte-alike frame i))
 
--- of the control word: V2-V0, F6-F0 and R1
-pub record SameSettings (s t : Settings) : Type 0 where
-  pub video : videoMode s ≡ videoMode t
-  pub from : offset s ≡ offset t
+-- what fetching feels of settings: which addresses it fetches, whether there is a display, and the look
+pub record SameFetches (s t : Settings) : Type 0 where
+  pub addresses : (n c : ℕ) → addressOf s n c ≡ addressOf t n c
   pub rate : fast s ≡ fast t
   pub look : SameLook (s .look) (t .look)
 
-module _ {s t : Settings} (e : SameSettings s t) where
-  -- fetching
+-- so it is with the same V2-V0, F6-F0 and R1 of the control word, the same rule, and the same look
+module _ (s t : Settings) (video : videoMode s ≡ videoMode t) (from : offset s ≡ offset t) (rate : fast s ≡ fast t) (rule : s .rule ≡ t .rule) (look : SameLook (s .look) (t .look)) where
   lineStart-alike : (n : ℕ) → lineStart s n ≡ lineStart t n
   unfolding lineStart start
-  lineStart-alike zero = rw (e .from)
-  lineStart-alike (suc n) = rw (width-alike (e .look), lineStart-alike n, bytes-by-v s t (e .video) (width (t .look)) (lineStart t n)) (clear-by-v s t (e .video) _)
+  lineStart-alike zero = rw from
+  lineStart-alike (suc n) = rw (width-alike look, lineStart-alike n, bytes-by-v s t video (width (t .look)) (lineStart t n)) (clear-by-v s t video rule _)
 
   addressOf-alike : (n c : ℕ) → addressOf s n c ≡ addressOf t n c
   unfolding addressOf
-  addressOf-alike n c = ap (λ (d : Counter). d .address) (bytes-by-v s t (e .video) c (lineStart s n) ∙ ap (bytesOn t c) (lineStart-alike n))
+  addressOf-alike n c = ap (λ (d : Counter). d .address) (bytes-by-v s t video c (lineStart s n) ∙ ap (bytesOn t c) (lineStart-alike n))
 
+  pub by-fields : SameFetches s t
+  by-fields = record { addresses = addressOf-alike; rate = rate; look = look }
+
+-- and under either rule where the addresses are the same
+pub by-rules : (s : Settings) (q r : Rule) → ((n c : ℕ) → addressOf (under q s) n c ≡ addressOf (under r s) n c) → SameFetches (under q s) (under r s)
+by-rules s q r h = record { addresses = h; rate = refl; look = record { above = refl; outside = refl; mode = refl; number = refl; colours = refl } }
+
+module _ {s t : Settings} (e : SameFetches s t) where
+  -- fetching
   fetchPlace-alike : (size k : ℕ) → fetchPlace s size k ≡ fetchPlace t size k
   unfolding fetchPlace imagePlace
-  fetchPlace-alike size k = rw (width-alike (e .look), addressOf-alike (k / width (t .look)) (k % width (t .look)))
+  fetchPlace-alike size k = rw (width-alike (e .look), e .addresses (k / width (t .look)) (k % width (t .look)))
 
-  pub fetchTold-alike : (image strip : List ℕ) → fetchTold s image strip ≡ fetchTold t image strip
+  fetchTold-alike : (image strip : List ℕ) → fetchTold s image strip ≡ fetchTold t image strip
   unfolding fetchTold
   fetchTold-alike image strip = rw (width-alike (e .look), e .look .above, e .rate)
 
-  pub stripAfter-alike : (image strip : List ℕ) → stripAfter s image strip ≡ stripAfter t image strip
+  stripAfter-alike : (image strip : List ℕ) → stripAfter s image strip ≡ stripAfter t image strip
   unfolding stripAfter
   stripAfter-alike image strip =
       rw (fetchTold-alike image strip, width-alike (e .look), written-by (stripLength (t .look)) strip (λ k _. ap (λ (p : ℕ). getD image p 0) (fetchPlace-alike (length image) k)))
 
   -- both at once
   module _ (image font strip frame : List ℕ) where
-    pub showTold-alike : showTold s image font strip frame ≡ showTold t image font strip frame
+    showTold-alike : showTold s image font strip frame ≡ showTold t image font strip frame
     unfolding showTold fontSize
     showTold-alike =
         let bytes : firstNotValid (s .look) (fetchedByte s image) ≡ firstNotValid (t .look) (fetchedByte t image) =
@@ -140,13 +155,31 @@ module _ {s t : Settings} (e : SameSettings s t) where
         ∙ same-not-valid (t .look) (fetchedByte s image) (fetchedByte t image) (λ k _. ap (λ (p : ℕ). getD image p 0) (fetchPlace-alike (length image) k)) in
         rw (bytes, border-alike (e .look), width-alike (e .look), e .look .above, e .look .outside, e .look .mode, e .rate)
 
-    pub stripShown-alike : stripShown s image font strip frame ≡ stripShown t image font strip frame
+    stripShown-alike : stripShown s image font strip frame ≡ stripShown t image font strip frame
     unfolding stripShown
     stripShown-alike = rw (showTold-alike, stripAfter-alike image strip)
 
-    pub frameShown-alike : frameShown s image font strip frame ≡ frameShown t image font strip frame
+    frameShown-alike : frameShown s image font strip frame ≡ frameShown t image font strip frame
     unfolding frameShown
     frameShown-alike = rw (showTold-alike, stripAfter-alike image strip, frameAfter-alike (e .look) font (stripAfter t image strip) frame)
+
+  -- of two calls with the same contents lent: fetching gives the same answer and strip,
+  pub same-fetched : (κs κs′ : Lfts 2) (image image′ strip strip′ : Lent) (z z′ : Answer) (out out′ : List ℕ)
+      → now image ≡ now image′ → now strip ≡ now strip′ → Fetches κs s image strip z out → Fetches κs′ t image′ strip′ z′ out′ → (z ≡ z′) × (out ≡ out′)
+  same-fetched κs κs′ image image′ strip strip′ z z′ out out′ i b p q = (
+    one-answer (p .0 ∙ fetchTold-alike (now image) (now strip)) (q .0 ∙ rw (i, b)),
+    p .1 ∙ stripAfter-alike (now image) (now strip) ∙ rw (i, b) (sym (q .1)),
+  )
+
+  -- and both at once the same answer, strip and frame
+  pub same-shown : (κs κs′ : Lfts 4) (image image′ font font′ strip strip′ frame frame′ : Lent) (z z′ : Answer) (bytes bytes′ pixels pixels′ : List ℕ)
+      → now image ≡ now image′ → now font ≡ now font′ → now strip ≡ now strip′ → now frame ≡ now frame′
+      → Shows κs s image font strip frame z bytes pixels → Shows κs′ t image′ font′ strip′ frame′ z′ bytes′ pixels′ → (z ≡ z′) × (bytes ≡ bytes′) × (pixels ≡ pixels′)
+  same-shown κs κs′ image image′ font font′ strip strip′ frame frame′ z z′ bytes bytes′ pixels pixels′ i f b x p q = (
+    one-answer (p .0 ∙ showTold-alike (now image) (now font) (now strip) (now frame)) (q .0 ∙ rw (i, f, b, x)),
+    p .1 .0 ∙ stripShown-alike (now image) (now font) (now strip) (now frame) ∙ rw (i, f, b, x) (sym (q .1 .0)),
+    p .1 .1 ∙ frameShown-alike (now image) (now font) (now strip) (now frame) ∙ rw (i, f, b, x) (sym (q .1 .1)),
+  )
 
 -- ---- tests that are told as numbers
 -- a test told by 1 or 0
@@ -155,6 +188,13 @@ by-number true true e = refl
 by-number true false e = absurd (omega arith)
 by-number false true e = absurd (omega arith)
 by-number false false e = refl
+
+-- a rule told by its number
+pub by-rule : (q r : Rule) → ruleNumber q ≡ ruleNumber r → q ≡ r
+by-rule One One e = refl
+by-rule One Two e = absurd (omega arith)
+by-rule Two One e = absurd (omega arith)
+by-rule Two Two e = refl
 
 -- a bit that is told only where a test fails
 pub by-bit : (a b : Bool) (x y : ℕ) → a ≡ b → choose a 0 x ≡ choose b 0 y → not a && eqb x 1 ≡ not b && eqb y 1

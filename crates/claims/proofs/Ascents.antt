@@ -7,6 +7,7 @@ use native.Mathlib.Omega.{arith}
 use lib.Dec.{T, eqb, eqb→eq}
 use Rattle.promises.proofs.Orders.{both}
 use Rattle.settings.specs.declared.Settings.{Settings}
+use Rattle.settings.specs.declared.Rule.the-variants.{One}
 use Rattle.settings.specs.Fields.{settingsOf}
 use Rattle.settings.specs.Modes.{width}
 use Rattle.counter.specs.declared.Counter.{Counter}
@@ -14,7 +15,7 @@ use Rattle.counter.specs.Counter.{fall, carry, advance, clear, bytesOn, start, 
 use Rattle.strip.specs.Fetch.{imagePlace, placeOf}
 
 abbrev pub rg6 : Settings
-rg6 = settingsOf 0x4006 0x2E
+rg6 = settingsOf 0x4006 0x2E One
 
 -- a line's end
 abbrev lineOn : Counter → Counter

@@ -176,7 +176,7 @@ line-of s key r i f v κl l w =
     ∙ ap (λ (x : List ℕ). x ++ (eq ++ annotationAt (notes s) i .value)) (f .key-is)
     ∙ ap (λ (x : List ℕ). now key ++ (eq ++ x)) (sym (v .holds))
 
--- The program `note` reads 28,153 bytes of each sheet: what lies past that alters neither what is told nor the value and where it lies.
+-- The program `note` reads 28,160 bytes of each sheet: what lies past that alters neither what is told nor the value and where it lies.
 pub note-enough : (own cover key : List ℕ) → (holderTold (take enough own) (take enough cover) key ≡ holderTold own cover key)
     × (held (take enough own) (take enough cover) key ≡ held own cover key)
     × ((s : List ℕ) → valueIn (take enough s) key ≡ valueIn s key)

@@ -20,6 +20,7 @@ use Rattle.promises.proofs.Fills.{written-fills}
 use Rattle.answer.specs.declared.Answer.{Answer}
 use Rattle.answer.specs.Told.{toldOf}
 use Rattle.settings.specs.declared.Look.{Look}
+use Rattle.settings.specs.declared.Rule.the-variants.{One}
 use Rattle.settings.specs.declared.Settings.{Settings}
 use Rattle.settings.specs.Modes.{border}
 use Rattle.settings.specs.Refusals.{stripLength, frameLength}
@@ -45,7 +46,7 @@ use Rattle.intake.specs.declared.Intake.{Intake}
 use Rattle.intake.specs.Intake.{intakeOrder, intakeTold, noSettings}
 use Rattle.intake.proofs.Judges.{given-refused}
 use Rattle.grammar.specs.Sheet.{Fields, lines}
-use Rattle.grammar.specs.Given.{padded, fieldsIn, noFields, sheetOrder, lineAt}
+use Rattle.grammar.specs.Given.{padded, fieldsIn, ruleGiven, noFields, sheetOrder, lineAt}
 use Rattle.grammar.proofs.Parts.{sheet-told, refused-fields}
 use Rattle.sheet.specs.declared.Sheet.{Sheet}
 use Rattle.sheet.proofs.Annotations.{Reads, Deed, Line, Tail, deed-holds, line-holds, tail-holds}
@@ -204,9 +205,10 @@ pub holder-demand : (κs : Lfts 3) (own cover key : Lent) (z : Answer) → Finds
 unfolding holderTold
 holder-demand κs own cover key z p = ordered (holderOrder (now own) (now cover) (now key)) (choose (hasKey (now own) (now key)) 0 1) tt p
 
--- a refused sheet yields an empty deed, pins 0, no writes and 0 annotations, and its parts are empty
+-- a refused sheet yields an empty deed, pins 0, rule 1, no writes and 0 annotations, and its parts are empty
 pub record Nothing (sheet : Lent) (z : Sheet) : Type 0 where
   pub pins : z .pins ≡ 0
+  pub rule : z .rule ≡ One
   pub writes : z .writes ≡ padded 64 []
   pub count : z .«write_count» ≡ 0
   pub annotations : z .annotations ≡ 0
@@ -219,6 +221,7 @@ refused-yields-nothing κs sheet z p refused =
     let e : fieldsIn (now sheet) ≡ noFields = refused-fields (now sheet) (λ d. refused (ap (λ (t : Told). t .number) (p .told) ∙ d)) in
     record {
       pins = p .pins ∙ ap (λ (f : Fields). f .pins) e;
+      rule = p .rule ∙ ap (λ (f : Fields). ruleGiven (f .rule)) e;
       writes = p .writes ∙ ap (λ (f : Fields). padded 64 (f .writes)) e;
       count = p .count ∙ ap (λ (f : Fields). length (f .writes)) e;
       annotations = p .annotations ∙ ap (λ (f : Fields). length (f .annotations)) e;

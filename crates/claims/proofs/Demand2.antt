@@ -219,15 +219,15 @@ module _ (s : Lent) (κs : Lfts 1) (z : Sheet) (read : Reads κs s z) where
   pub broken-sheet : (Done (z .answer) → ⊥) → (toldOf (z .answer) .number ≡ 11) × Longest sheets (now s) (toldOf (z .answer) .place) × ((f : Fields) → ValidSheet f → now s ≡ render f → ⊥)
   broken-sheet differ = refused-sheet s κs z read differ
 
--- Every valid set of fields is read back from its bytes: pins, writes and annotations are those of the fields.
+-- Every valid set of fields is read back from its bytes: pins, rule, writes and annotations are those of the fields.
 pub valid-read : (κs : Lfts 1) (s : Lent) (z : Sheet) (f : Fields) → ValidSheet f → now s ≡ render f → Reads κs s z
     → Done (z .answer) × (fieldsIn (now s) ≡ f)
 valid-read κs s z f valid e p =
     let r : readSheet (now s) ≡ got f (length (render f)) = ap readSheet e ∙ read-back f valid in
     (ap (λ (t : Told). t .number) (p .told ∙ ap toldRead r), ap fieldsRead r)
 
--- The longest sheet has 28,152 bytes: no accepted sheet is longer, and one is as long.
-pub longest-sheet : ((κs : Lfts 1) (s : Lent) (z : Sheet) → Reads κs s z → Done (z .answer) → length (now s) ≤ 28152) × ((s : List ℕ) × (acceptedSheet s ≡ true) × (length s ≡ 28152))
+-- The longest sheet has 28,159 bytes: no accepted sheet is longer, and one is as long.
+pub longest-sheet : ((κs : Lfts 1) (s : Lent) (z : Sheet) → Reads κs s z → Done (z .answer) → length (now s) ≤ 28159) × ((s : List ℕ) × (acceptedSheet s ≡ true) × (length s ≡ 28159))
 longest-sheet = ((λ κs s z p d. none-longer (now s) (done-accepted s κs z p d)), one-as-long)
 
 -- Semigraphics: a byte of 128 or more is drawn alike under all pins of text, with any font; external text refuses it.
@@ -237,7 +237,7 @@ semigraphics-alike l m font list g h b line t k =
     let e = blocks l m font list b (line % 12) k in
     rw (g, h, e .0, e .1)
 
--- The settings of a sheet that is taken in: its writes played from reset, and its pins.
+-- The settings of a sheet that is taken in: its writes played from reset, its pins, and its rule.
 pub sheet-settings : (κs : Lfts 1) (s : Lent) (z : Intake) → TakesIn κs s z → Done (z .answer) → z .settings ≡ settingsIn (now s)
 sheet-settings κs s z p d = p .settings ∙ given-done (now s) (ap (λ (t : Told). t .number) (sym (p .told)) ∙ d)
 

@@ -13,13 +13,14 @@ use Rattle.promises.proofs.Tables.{Each}
 use Rattle.answer.specs.declared.Answer.{Answer}
 use Rattle.answer.proofs.Answers.{one-answer}
 use Rattle.settings.specs.declared.Look.{Look}
+use Rattle.settings.specs.declared.Rule.{Rule}
+use Rattle.settings.specs.declared.Rule.the-variants.{One}
 use Rattle.settings.specs.declared.Settings.{Settings}
-use Rattle.settings.specs.Fields.{lookOf, settingsOf, bits, videoMode, offset, graphics, gm, css}
+use Rattle.settings.specs.Fields.{lookOf, settingsOf, ruleNumber, bits, videoMode, offset, graphics, gm, css}
 use Rattle.control.specs.Control.{withBit}
 use Rattle.claims.proofs.Calls.{Lent, Fetches, Draws, Shows, ReadsBack}
-use Rattle.claims.proofs.Alikes.{SameLook, SameSettings, fetchTold-alike, stripAfter-alike, drawTold-alike, frameAfter-alike}
-use Rattle.claims.proofs.Alikes.{showTold-alike, stripShown-alike, frameShown-alike, backTold-alike, stripBack-alike}
-use Rattle.claims.proofs.Alikes.{by-number, by-bit, by-high, bits-below, bits-above}
+use Rattle.claims.proofs.Alikes.{SameLook, SameFetches, by-fields, same-fetched, same-shown, drawTold-alike, frameAfter-alike, backTold-alike, stripBack-alike}
+use Rattle.claims.proofs.Alikes.{by-number, by-rule, by-bit, by-high, bits-below, bits-above}
 
 -- What is felt of the pins, each as a number.
 abbrev pub feltLook : List (Look → ℕ)
@@ -45,6 +46,8 @@ felt =
     ∷ offset
     -- R1
     ∷ (λ (s : Settings). bits (s .word) 12 1)
+    -- the rule
+    ∷ (λ (s : Settings). ruleNumber (s .rule))
     -- and what is felt of the pins
     ∷ map (λ (f : Look → ℕ) (s : Settings). f (s .look)) feltLook
 
@@ -74,17 +77,13 @@ same-look l m (above, (ag, (ext, (number, (colours, _))))) =
     let mode : graphics l ≡ graphics m = ap (λ (n : ℕ). eqb n 1) ag in
     record { above = by-number _ _ above; outside = by-bit (graphics l) (graphics m) _ _ mode ext; mode = mode; number = number; colours = colours }
 
-same-settings : (s t : Settings) → Alike felt s t → SameSettings s t
-same-settings s t (v, (f, (r, look))) = record { video = v; from = f; rate = ap (λ (n : ℕ). eqb n 1) r; look = same-look (s .look) (t .look) look }
+same-settings : (s t : Settings) → Alike felt s t → SameFetches s t
+same-settings s t (v, (f, (r, (u, look)))) = by-fields s t v f (ap (λ (n : ℕ). eqb n 1) r) (by-rule (s .rule) (t .rule) u) (same-look (s .look) (t .look) look)
 
 -- Fetching: settings that are alike in what is felt give the same answer and strip.
 pub felt-fetch : (s t : Settings) → Alike felt s t → (κs κs′ : Lfts 2) (image image′ strip strip′ : Lent) (z z′ : Answer) (out out′ : List ℕ)
     → now image ≡ now image′ → now strip ≡ now strip′ → Fetches κs s image strip z out → Fetches κs′ t image′ strip′ z′ out′ → (z ≡ z′) × (out ≡ out′)
-felt-fetch s t a κs κs′ image image′ strip strip′ z z′ out out′ i b p q =
-    let e = same-settings s t a in (
-      one-answer (p .0 ∙ fetchTold-alike e (now image) (now strip)) (q .0 ∙ rw (i, b)),
-      p .1 ∙ stripAfter-alike e (now image) (now strip) ∙ rw (i, b) (sym (q .1)),
-    )
+felt-fetch s t a = same-fetched (same-settings s t a)
 
 -- Drawing: the same answer and frame.
 pub felt-draw : (l m : Look) → Alike feltLook l m → (κs κs′ : Lfts 3) (font font′ strip strip′ frame frame′ : Lent) (z z′ : Answer) (out out′ : List ℕ)
@@ -101,12 +100,7 @@ pub felt-show : (s t : Settings) → Alike felt s t
     → (κs κs′ : Lfts 4) (image image′ font font′ strip strip′ frame frame′ : Lent) (z z′ : Answer) (bytes bytes′ pixels pixels′ : List ℕ)
     → now image ≡ now image′ → now font ≡ now font′ → now strip ≡ now strip′ → now frame ≡ now frame′
     → Shows κs s image font strip frame z bytes pixels → Shows κs′ t image′ font′ strip′ frame′ z′ bytes′ pixels′ → (z ≡ z′) × (bytes ≡ bytes′) × (pixels ≡ pixels′)
-felt-show s t a κs κs′ image image′ font font′ strip strip′ frame frame′ z z′ bytes bytes′ pixels pixels′ i f b x p q =
-    let e = same-settings s t a in (
-      one-answer (p .0 ∙ showTold-alike e (now image) (now font) (now strip) (now frame)) (q .0 ∙ rw (i, f, b, x)),
-      p .1 .0 ∙ stripShown-alike e (now image) (now font) (now strip) (now frame) ∙ rw (i, f, b, x) (sym (q .1 .0)),
-      p .1 .1 ∙ frameShown-alike e (now image) (now font) (now strip) (now frame) ∙ rw (i, f, b, x) (sym (q .1 .1)),
-    )
+felt-show s t a = same-shown (same-settings s t a)
 
 -- Reading back: the same answer and strip.
 pub felt-back : (l m : Look) → Alike feltLook l m → (κs κs′ : Lfts 2) (frame frame′ strip strip′ : Lent) (z z′ : Answer) (out out′ : List ℕ)
@@ -117,28 +111,28 @@ felt-back l m a κs κs′ frame frame′ strip strip′ z z′ out out′ x b p
       p .1 ∙ stripBack-alike e (now frame) (now strip) ∙ rw (x, b) (sym (q .1)),
     )
 
--- "M, P, R0 and TY alter nothing": words that agree in V, F and R1 are alike under the same pins, whatever their other bits are;
-pub not-felt : (w w′ p : ℕ) → bits w 0 3 ≡ bits w′ 0 3 → bits w 3 7 ≡ bits w′ 3 7 → bits w 12 1 ≡ bits w′ 12 1 → Alike felt (settingsOf w p) (settingsOf w′ p)
-not-felt w w′ p v f r = (v, (f, (r, (refl, (refl, (refl, (refl, (refl, tt))))))))
+-- "M, P, R0 and TY alter nothing": words that agree in V, F and R1 are alike under the same pins and rule, whatever their other bits are;
+pub not-felt : (w w′ p : ℕ) (q : Rule) → bits w 0 3 ≡ bits w′ 0 3 → bits w 3 7 ≡ bits w′ 3 7 → bits w 12 1 ≡ bits w′ 12 1 → Alike felt (settingsOf w p q) (settingsOf w′ p q)
+not-felt w w′ p q v f r = (v, (f, (r, (refl, (refl, (refl, (refl, (refl, (refl, tt)))))))))
 
 -- so each bit that is not felt may be set or cleared in any word.
 abbrev pub NotFelt : ℕ → Type 0
-NotFelt k = (w p b : ℕ) → b < 2 → Alike felt (settingsOf (withBit w k b) p) (settingsOf w p)
+NotFelt k = (w p b : ℕ) (q : Rule) → b < 2 → Alike felt (settingsOf (withBit w k b) p q) (settingsOf w p q)
 
 p-not-felt : NotFelt 10
-p-not-felt w p b h = let d = bits-below w 10 b in not-felt (withBit w 10 b) w p (omega arith) (omega arith) (ap (λ (n : ℕ). n % 2) (bits-above w 10 b h 1))
+p-not-felt w p b q h = let d = bits-below w 10 b in not-felt (withBit w 10 b) w p q (omega arith) (omega arith) (ap (λ (n : ℕ). n % 2) (bits-above w 10 b h 1))
 
 r0-not-felt : NotFelt 11
-r0-not-felt w p b h = let d = bits-below w 11 b in not-felt (withBit w 11 b) w p (omega arith) (omega arith) (ap (λ (n : ℕ). n % 2) (bits-above w 11 b h 0))
+r0-not-felt w p b q h = let d = bits-below w 11 b in not-felt (withBit w 11 b) w p q (omega arith) (omega arith) (ap (λ (n : ℕ). n % 2) (bits-above w 11 b h 0))
 
 m0-not-felt : NotFelt 13
-m0-not-felt w p b h = let d = bits-below w 13 b in not-felt (withBit w 13 b) w p (omega arith) (omega arith) (omega arith)
+m0-not-felt w p b q h = let d = bits-below w 13 b in not-felt (withBit w 13 b) w p q (omega arith) (omega arith) (omega arith)
 
 m1-not-felt : NotFelt 14
-m1-not-felt w p b h = let d = bits-below w 14 b in not-felt (withBit w 14 b) w p (omega arith) (omega arith) (omega arith)
+m1-not-felt w p b q h = let d = bits-below w 14 b in not-felt (withBit w 14 b) w p q (omega arith) (omega arith) (omega arith)
 
 ty-not-felt : NotFelt 15
-ty-not-felt w p b h = let d = bits-below w 15 b in not-felt (withBit w 15 b) w p (omega arith) (omega arith) (omega arith)
+ty-not-felt w p b q h = let d = bits-below w 15 b in not-felt (withBit w 15 b) w p q (omega arith) (omega arith) (omega arith)
 
 pub each-unfelt : Each NotFelt unfelt
 each-unfelt = (p-not-felt, (r0-not-felt, (m0-not-felt, (m1-not-felt, (ty-not-felt, tt)))))
@@ -150,13 +144,13 @@ ext-not-felt p b h g =
     let ag : bits (withBit p 4 b) 5 1 ≡ bits p 5 1 = ap (λ (n : ℕ). n % 2) (bits-above p 4 b h 0) in
     (ap (λ (a : Bool). choose a 1 0) (by-high (withBit p 4 b) p (bits-above p 4 b h 1)), (ag, (simp (ag, g), (omega arith, (omega arith, tt)))))
 
--- looks that are alike are so in settings with any word
-pub by-look : (w : ℕ) (l m : Look) → Alike feltLook l m → Alike felt (record { word = w; look = l }) (record { word = w; look = m })
-by-look w l m a = (refl, (refl, (refl, a)))
+-- looks that are alike are so in settings with any word, under either rule
+pub by-look : (w : ℕ) (q : Rule) (l m : Look) → Alike feltLook l m → Alike felt (record { word = w; look = l; rule = q }) (record { word = w; look = m; rule = q })
+by-look w q l m a = (refl, (refl, (refl, (refl, a))))
 
 -- For instance: with P, R0, M0, M1 and TY all 0 or all 1, and with INT/EXT 0 or 1 in CG1.
-pub word-alike : Alike felt (settingsOf 0x0011 0x20) (settingsOf 0xEC11 0x20)
-word-alike = (refl, (refl, (refl, (refl, (refl, (refl, (refl, (refl, tt))))))))
+pub word-alike : Alike felt (settingsOf 0x0011 0x20 One) (settingsOf 0xEC11 0x20 One)
+word-alike = (refl, (refl, (refl, (refl, (refl, (refl, (refl, (refl, (refl, tt)))))))))
 
-pub pins-alike : Alike felt (settingsOf 0x0011 0x20) (settingsOf 0x0011 0x30)
-pins-alike = (refl, (refl, (refl, (refl, (refl, (refl, (refl, (refl, tt))))))))
+pub pins-alike : Alike felt (settingsOf 0x0011 0x20 One) (settingsOf 0x0011 0x30 One)
+pins-alike = (refl, (refl, (refl, (refl, (refl, (refl, (refl, (refl, (refl, tt)))))))))

@@ -12,5 +12,6 @@ pub mod Copy
 pub mod Cover
 pub mod LowerCase
 pub mod External
+pub mod Rules
 pub mod Ascents
 pub mod Unfit

@@ -50,9 +50,12 @@ operations =
     ∷ fixed settings.short-strip-fixes
     ∷ fixed settings.short-frame-fixes
     ∷ fixed control.play-fixes
+    ∷ fixed counter.ends-count-fixes
     ∷ fixed counter.start-fixes
     ∷ fixed counter.carry-fixes
     ∷ fixed counter.advance-fixes
+    ∷ fixed counter.fall-fixes
+    ∷ fixed counter.cleared-fixes
     ∷ fixed counter.clear-fixes
     ∷ fixed strip.fetch-fixes
     ∷ fixed valid.not-valid-fixes
@@ -89,6 +92,7 @@ operations =
     ∷ fixed trial.form-fixes
     ∷ fixed trial.one-fixes
     ∷ fixed trial.figure-name-fixes
+    ∷ fixed trial.rule-name-fixes
     ∷ fixed trial.number-and-place-fixes
     ∷ fixed trial.answered-fixes
     ∷ fixed trial.quoted-fixes
@@ -120,9 +124,12 @@ pub named : map (λ o. o .operation .key) operations
     ∷ "settings::short_strip"
     ∷ "settings::short_frame"
     ∷ "control::play"
+    ∷ "counter::ends_count"
     ∷ "counter::start"
     ∷ "counter::Counter::carry"
     ∷ "counter::Counter::advance"
+    ∷ "counter::Counter::fall"
+    ∷ "counter::Counter::cleared"
     ∷ "counter::Counter::clear"
     ∷ "strip::fetch"
     ∷ "valid::not_valid"
@@ -159,6 +166,7 @@ pub named : map (λ o. o .operation .key) operations
     ∷ "trial::form"
     ∷ "trial::one"
     ∷ "trial::figure_name"
+    ∷ "trial::rule_name"
     ∷ "trial::number_and_place"
     ∷ "trial::answered"
     ∷ "trial::quoted"

@@ -19,6 +19,8 @@ use Rattle.promises.specs.First.{firstWhere}
 use Rattle.promises.proofs.Firsts.{first-none}
 use Rattle.answer.specs.declared.Answer.{Answer}
 use Rattle.settings.specs.declared.Look.{Look}
+use Rattle.settings.specs.declared.Rule.{Rule}
+use Rattle.settings.specs.declared.Rule.the-variants.{One}
 use Rattle.settings.specs.declared.Settings.{Settings}
 use Rattle.settings.specs.Fields.{lookOf, settingsOf, bits, graphics}
 use Rattle.settings.specs.Modes.{width, dots, fontSize}
@@ -113,7 +115,7 @@ pub some-played : NoneHolds (playOrder 0x0000 (0xFFC1 ∷ 0xFFC9 ∷ 0xFFD6 ∷ 
 unfolding firstElsewhere
 some-played = (refl, tt)
 
-pub some-fetched : NoneHolds (fetchOrder (settingsOf 0x0000 0x2E) (zeros 4096) (zeros 6144))
+pub some-fetched : NoneHolds (fetchOrder (settingsOf 0x0000 0x2E One) (zeros 4096) (zeros 6144))
 unfolding imageFits width
 some-fetched = (refl, (refl, (refl, (refl, tt))))
 
@@ -128,14 +130,14 @@ some-drawn = (
   (refl, (refl, (refl, (refl, bytes-low (lookOf 0x10) _ (λ k h. all-zero 6144 k))))),
 )
 
-pub some-shown : NoneHolds (showOrder (settingsOf 0x0000 0x2E) (zeros 4096) [] (zeros 6144) (zeros frameLength))
-    × NoneHolds (showOrder (settingsOf 0x4000 0x00) (zeros 65536) (zeros 1152) (zeros 6144) (zeros frameLength))
-    × NoneHolds (showOrder (settingsOf 0x4000 0x10) (zeros 65536) (zeros 3072) (zeros 6144) (zeros frameLength))
+pub some-shown : NoneHolds (showOrder (settingsOf 0x0000 0x2E One) (zeros 4096) [] (zeros 6144) (zeros frameLength))
+    × NoneHolds (showOrder (settingsOf 0x4000 0x00 One) (zeros 65536) (zeros 1152) (zeros 6144) (zeros frameLength))
+    × NoneHolds (showOrder (settingsOf 0x4000 0x10 One) (zeros 65536) (zeros 3072) (zeros 6144) (zeros frameLength))
 unfolding imageFits width fontSize
 some-shown = (
   (refl, (refl, (refl, (refl, (refl, (refl, bytes-internal (lookOf 0x2E) _ refl)))))),
   (refl, (refl, (refl, (refl, (refl, (refl, bytes-internal (lookOf 0x00) _ refl)))))),
-  (refl, (refl, (refl, (refl, (refl, (refl, bytes-low (lookOf 0x10) _ (λ k h. all-zero 65536 (fetchPlace (settingsOf 0x4000 0x10) 65536 k)))))))),
+  (refl, (refl, (refl, (refl, (refl, (refl, bytes-low (lookOf 0x10) _ (λ k h. all-zero 65536 (fetchPlace (settingsOf 0x4000 0x10 One) 65536 k)))))))),
 )
 
 none-stray : firstStray (lookOf 0x20) (zeros frameLength) ≡ frameLength
@@ -209,12 +211,12 @@ not-one-text κs κs′ font strip strip′ frame frame′ z z′ out out′ p q
     first-differs (frame-pixels κs (lookOf 0x00) font strip frame z out p d 0 (omega arith) ∙ first-pixel (now font) (now strip) .0 e)
     (frame-pixels κs′ (lookOf 0x00) font strip′ frame′ z′ out′ q d′ 0 (omega arith) ∙ first-pixel (now font) (now strip′) .1 e′)
 
-pub not-one-text-screen : (κs κs′ : Lfts 4) (word : ℕ) (image image′ font strip strip′ frame frame′ : Lent) (z z′ : Answer) (bytes bytes′ pixels pixels′ : List ℕ)
-    → Shows κs (settingsOf word 0x00) image font strip frame z bytes pixels → Shows κs′ (settingsOf word 0x00) image′ font strip′ frame′ z′ bytes′ pixels′ → Done z → Done z′
+pub not-one-text-screen : (κs κs′ : Lfts 4) (word : ℕ) (rule : Rule) (image image′ font strip strip′ frame frame′ : Lent) (z z′ : Answer) (bytes bytes′ pixels pixels′ : List ℕ)
+    → Shows κs (settingsOf word 0x00 rule) image font strip frame z bytes pixels → Shows κs′ (settingsOf word 0x00 rule) image′ font strip′ frame′ z′ bytes′ pixels′ → Done z → Done z′
     → getD bytes 0 0 ≡ 0x80 → getD bytes′ 0 0 ≡ 0x8F → pixels ≡ pixels′ → ⊥
-not-one-text-screen κs κs′ word image image′ font strip strip′ frame frame′ z z′ bytes bytes′ pixels pixels′ p q d d′ e e′ =
-    first-differs (shown-pixel κs (settingsOf word 0x00) image font strip frame z bytes pixels p d 0 (omega arith) ∙ first-pixel (now font) bytes .0 e)
-    (shown-pixel κs′ (settingsOf word 0x00) image′ font strip′ frame′ z′ bytes′ pixels′ q d′ 0 (omega arith) ∙ first-pixel (now font) bytes′ .1 e′)
+not-one-text-screen κs κs′ word rule image image′ font strip strip′ frame frame′ z z′ bytes bytes′ pixels pixels′ p q d d′ e e′ =
+    first-differs (shown-pixel κs (settingsOf word 0x00 rule) image font strip frame z bytes pixels p d 0 (omega arith) ∙ first-pixel (now font) bytes .0 e)
+    (shown-pixel κs′ (settingsOf word 0x00 rule) image′ font strip′ frame′ z′ bytes′ pixels′ q d′ 0 (omega arith) ∙ first-pixel (now font) bytes′ .1 e′)
 
 -- and in external text bytes 00 and 40 do, with a font in which the first row of their patterns is empty; said of both at once too (`Painted`).
 first-external : (font strip : List ℕ) → getD font 0 0 ≡ 0 → getD font 768 0 ≡ 0

@@ -219,7 +219,7 @@ fn main() {
         );
         return;
     }
-    let mut sheet = [0u8; 28153];
+    let mut sheet = [0u8; 28160];
     let found = read_arg(&WHO, 1, &mut sheet);
     if found.whole {
         let len = found.len;

@@ -3,5 +3,7 @@ pub mod Wraps
 pub mod Tables
 pub mod Walks
 pub mod Runs
+pub mod Ends
 pub mod Shifts
+pub mod Rules
 pub mod Unique

@@ -4,6 +4,7 @@ use mathlib.Core.Path.{_≡_, sym, ap, _∙_}
 use mathlib.Core.Logic.{⊎-elim}
 use native.Mathlib.Nat.{add-zero}
 use native.Mathlib.Omega.{arith}
+use mathlib.Core.Bool.{_&&_}
 use lib.Dec.{eqb, ltb}
 use borrow.Author.Tests.{eq-eqb, ne-eqb}
 use Rattle.promises.proofs.Choices.{of-both}
@@ -11,7 +12,7 @@ use Rattle.settings.specs.declared.Settings.{Settings}
 use Rattle.settings.specs.Modes.{width}
 use Rattle.settings.proofs.Widths.{width-cases}
 use Rattle.counter.specs.declared.Counter.{Counter}
-use Rattle.counter.specs.Counter.{divX, divY, wrap, counter, run, fall, carry, advance, clear, bytesOn, start, lineStart}
+use Rattle.counter.specs.Counter.{divX, divY, wrap, counter, run, fall, carry, advance, clearsSetB4, cleared, clearingCounts, clear, bytesOn, start, lineStart}
 use Rattle.counter.proofs.Wraps.{wrap-wrap, wrap-small, wrap-lt}
 use Rattle.counter.proofs.Tables.{by-kept, cleared-le}
 use Rattle.counter.proofs.Walks.{bytesOn-on}
@@ -56,12 +57,15 @@ module _ (s : Settings) (c : Counter) (al : Aligned c) where
       (of-both Aligned (eqb (run c % 32) 0) (record { low = omega arith; fits = wrap-lt (run c) 16 })
       (fall-aligned s (counter (run c - 16) 0 (c .y)) (record { low = omega arith; fits = omega (arith, al .fits) })))
 
-  pub clear-aligned : Aligned (clear s c)
-  unfolding clear
-  clear-aligned = record {
+  cleared-aligned : Aligned (cleared s c)
+  cleared-aligned = record {
     low = by-kept s (λ k. (c .address / 2 ^ k * 2 ^ k + c .address % 2) % 16 ≡ 0) (omega (arith, al .low)) (omega (arith, al .low)) (omega (arith, al .low));
     fits = omega (arith, al .fits, cleared-le s (c .address));
   }
+
+  pub clear-aligned : Aligned (clear s c)
+  unfolding clear
+  clear-aligned = of-both Aligned (clearingCounts (s .rule) && clearsSetB4 s c) (fall-aligned s (cleared s c) cleared-aligned) cleared-aligned
 
 pub start-aligned : (s : Settings) → Aligned (start s)
 unfolding start
@@ -76,10 +80,15 @@ runs-aligned s c al (suc n) =
     let e : bytesOn s (16 * suc n) c ≡ bytesOn s 16 (bytesOn s (16 * n) c) = ap (λ (k : ℕ). bytesOn s k c) n16 ∙ bytesOn-on s (16 * n) 16 c in
     rw (e, run-end s (bytesOn s (16 * n) c) (runs-aligned s c al n)) (carry-aligned s (bytesOn s (16 * n) c) (runs-aligned s c al n))
 
--- every line starts aligned, since it has one or two runs
+-- a line has one or two runs
+width-aligned : (s : Settings) (c : Counter) → Aligned c → Aligned (bytesOn s (width (s .look)) c)
+width-aligned s c al = ⊎-elim (λ e. rw e (runs-aligned s c al 1)) (λ e. rw e (runs-aligned s c al 2)) (width-cases (s .look))
+
+-- so every line starts aligned, and ends so
 pub line-aligned : (s : Settings) (n : ℕ) → Aligned (lineStart s n)
 unfolding lineStart
 line-aligned s zero = start-aligned s
-line-aligned s (suc n) =
-    clear-aligned s (bytesOn s (width (s .look)) (lineStart s n))
-    (⊎-elim (λ e. rw e (runs-aligned s (lineStart s n) (line-aligned s n) 1)) (λ e. rw e (runs-aligned s (lineStart s n) (line-aligned s n) 2)) (width-cases (s .look)))
+line-aligned s (suc n) = clear-aligned s (bytesOn s (width (s .look)) (lineStart s n)) (width-aligned s (lineStart s n) (line-aligned s n))
+
+pub line-end-aligned : (s : Settings) (n : ℕ) → Aligned (bytesOn s (width (s .look)) (lineStart s n))
+line-end-aligned s n = width-aligned s (lineStart s n) (line-aligned s n)

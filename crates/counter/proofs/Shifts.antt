@@ -1,16 +1,18 @@
 -- The counter counts alike wherever the window starts: a start that is so many steps of 512 further on shifts every address by as much, with wrap.
 use Prim.Native.Nat.{ℕ, zero, suc, _+_, _-_, _*_, _/_, _%_, _^_, _<_}
-use mathlib.Core.Path.{_≡_, refl, sym, ap, _∙_}
+use mathlib.Core.Path.{_≡_, refl, sym, ap, ap₂, _∙_}
 use native.Mathlib.Nat.{mod-add-mod, mod-eq-of-lt}
 use native.Mathlib.Omega.{arith}
 use borrow.Author.Tests.{eqb-false}
+use mathlib.Core.Bool.{Bool, _&&_}
 use lib.Dec.{eqb, ltb}
+use Rattle.promises.specs.Choose.{choose}
 use Rattle.promises.proofs.Choices.{by-test}
 use Rattle.settings.specs.declared.Settings.{Settings}
 use Rattle.settings.specs.Fields.{videoMode, offset}
 use Rattle.settings.specs.Modes.{width}
 use Rattle.counter.specs.declared.Counter.{Counter}
-use Rattle.counter.specs.Counter.{divX, divY, wrap, counter, run, fall, carry, advance, clear, bytesOn, start, lineStart, addressOf}
+use Rattle.counter.specs.Counter.{divX, divY, wrap, counter, run, b4, fall, carry, advance, clearsSetB4, cleared, clearingCounts, clear, bytesOn, start, lineStart, addressOf}
 use Rattle.counter.proofs.Tables.{by-kept}
 
 -- the counter with its address 512 k further on
@@ -93,18 +95,29 @@ keep4 a k = rw (run-shift a k, low2 a k) (add-low (a / 16 * 16) k (a % 2) (omega
 keep1 : (a k : ℕ) → wrap a (512 * k) / 2 * 2 + wrap a (512 * k) % 2 ≡ wrap (a / 2 * 2 + a % 2) (512 * k)
 keep1 a k = omega arith
 
-pub clear-shift : (s : Settings) (k : ℕ) (c : Counter) → clear s (shift k c) ≡ shift k (clear s c)
-unfolding clear
-clear-shift s k c =
+cleared-shift : (s : Settings) (k : ℕ) (c : Counter) → cleared s (shift k c) ≡ shift k (cleared s c)
+cleared-shift s k c =
     ap (λ (n : ℕ). counter n (c .x) (c .y))
     (by-kept s (λ b. wrap (c .address) (512 * k) / 2 ^ b * 2 ^ b + wrap (c .address) (512 * k) % 2 ≡ wrap (c .address / 2 ^ b * 2 ^ b + c .address % 2) (512 * k))
     (keep5 (c .address) k) (keep4 (c .address) k) (keep1 (c .address) k))
 
--- the settings with the window's start at $0000: V and the look stay
-abbrev pub fromZero : Settings → Settings
-fromZero s = record { word = videoMode s; look = s .look }
+bit4 : (a k : ℕ) → wrap a (512 * k) / 16 % 2 ≡ a / 16 % 2
+bit4 a k = omega arith
 
--- the counter's rules read V alone
+drop-shift : (s : Settings) (k : ℕ) (c : Counter) → clearsSetB4 s (shift k c) ≡ clearsSetB4 s c
+drop-shift s k c = ap₂ (λ (a b : ℕ). eqb a 1 && eqb b 0) (bit4 (c .address) k) (ap b4 (cleared-shift s k c) ∙ bit4 (cleared s c .address) k)
+
+pub clear-shift : (s : Settings) (k : ℕ) (c : Counter) → clear s (shift k c) ≡ shift k (clear s c)
+unfolding clear
+clear-shift s k c =
+    ap₂ (λ (t : Bool) (d : Counter). choose (clearingCounts (s .rule) && t) (fall s d) d) (drop-shift s k c) (cleared-shift s k c)
+    ∙ (by-test (clearingCounts (s .rule) && clearsSetB4 s c) (λ t. simp t (fall-shift s k (cleared s c))) (λ t. simp t))
+
+-- the settings with the window's start at $0000: V, the look and the rule stay
+abbrev pub fromZero : Settings → Settings
+fromZero s = record { word = videoMode s; look = s .look; rule = s .rule }
+
+-- in a line the counter reads V alone
 module _ (s t : Settings) (e : videoMode s ≡ videoMode t) where
   advance-by-v : (c : Counter) → advance s c ≡ advance t c
   unfolding advance carry fall
@@ -115,9 +128,10 @@ module _ (s t : Settings) (e : videoMode s ≡ videoMode t) where
   bytes-by-v zero c = refl
   bytes-by-v (suc n) c = rw (bytes-by-v n c) (advance-by-v (bytesOn t n c))
 
-  pub clear-by-v : (c : Counter) → clear s c ≡ clear t c
-  unfolding clear
-  clear-by-v c = rw e
+  -- and at its end the rule too
+  pub clear-by-v : s .rule ≡ t .rule → (c : Counter) → clear s c ≡ clear t c
+  unfolding clear fall
+  clear-by-v r c = rw (e, r)
 
 same-v : (s : Settings) → videoMode s ≡ videoMode (fromZero s)
 same-v s = omega arith
@@ -132,7 +146,7 @@ unfolding lineStart
 line-shift s zero = start-shift s
 line-shift s (suc n) =
     rw (line-shift s n, bytes-shift s (offset s) (width (s .look)) (lineStart (fromZero s) n), clear-shift s (offset s) (bytesOn s (width (s .look)) (lineStart (fromZero s) n)))
-    (ap (shift (offset s)) (ap (clear s) (bytes-by-v s (fromZero s) (same-v s) (width (s .look)) (lineStart (fromZero s) n)) ∙ clear-by-v s (fromZero s) (same-v s) (bytesOn (fromZero s) (width (s .look)) (lineStart (fromZero s) n))))
+    (ap (shift (offset s)) (ap (clear s) (bytes-by-v s (fromZero s) (same-v s) (width (s .look)) (lineStart (fromZero s) n)) ∙ clear-by-v s (fromZero s) (same-v s) refl (bytesOn (fromZero s) (width (s .look)) (lineStart (fromZero s) n))))
 
 -- and of every byte of every line
 pub address-shift : (s : Settings) (n c : ℕ) → addressOf s n c ≡ wrap (addressOf (fromZero s) n c) (512 * offset s)

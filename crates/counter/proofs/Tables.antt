@@ -22,6 +22,9 @@ divX-le s = leb→le (divX s) 3 (each-below (λ v. leb (getD timesX v 0) 3) 8 tt
 pub divY-le : (s : Settings) → divY s ≤ 12
 divY-le s = leb→le (divY s) 12 (each-below (λ v. leb (getD timesY v 0) 12) 8 tt (videoMode s) (mod-lt _ (lit< tt)))
 
+pub divY-pos : (s : Settings) → 0 < divY s
+divY-pos s = leb→le 1 (divY s) (each-below (λ v. leb 1 (getD timesY v 0)) 8 tt (videoMode s) (mod-lt _ (lit< tt)))
+
 -- a fact about the lowest bit kept, B5, B4 or B1, by the rows of the table
 pub by-kept : (s : Settings) (P : ℕ → Type 0) → P 5 → P 4 → P 1 → P (kept s)
 by-kept s P p q r = each P keptFrom 0 (p, (q, (p, (q, (p, (q, (p, (r, tt)))))))) (videoMode s) (mod-lt _ (lit< tt))

@@ -1,9 +1,12 @@
--- The SAM's video address counter (document 003, figure 5; document 01, "Which bytes are fetched").
+-- The SAM's video address counter (document 003, figure 5; document 01, "Which bytes are fetched"; document 02, CR 6).
 use Prim.Native.Nat.{ℕ, zero, suc, _+_, _-_, _*_, _/_, _%_, _^_}
+use mathlib.Core.Bool.{Bool, true, false, _&&_}
 use mathlib.Core.List.{List, [], _∷_}
 use lib.Dec.{ltb, eqb}
 use lib.ListN.{getD}
 use Rattle.promises.specs.Choose.{choose}
+use Rattle.settings.specs.declared.Rule.{Rule}
+use Rattle.settings.specs.declared.Rule.the-variants.{One, Two}
 use Rattle.settings.specs.declared.Settings.{Settings}
 use Rattle.settings.specs.Fields.{videoMode, offset}
 use Rattle.settings.specs.Modes.{width}
@@ -41,6 +44,10 @@ counter a x y = record { address = a; x = x; y = y }
 abbrev pub run : Counter → ℕ
 run c = c .address / 16 * 16
 
+-- B4
+abbrev pub b4 : Counter → ℕ
+b4 c = c .address / 16 % 2
+
 -- B4 has gone from 1 to 0: the Y divider counts; on its Yth count it returns to 0 and B5-B15 count up
 unfoldable pub fall : Settings → Counter → Counter
 fall s c = choose (ltb (c .y + 1) (divY s)) (counter (c .address) (c .x) (c .y + 1)) (counter (wrap (c .address) 32) (c .x) 0)
@@ -55,9 +62,22 @@ carry s c =
 unfoldable pub advance : Settings → Counter → Counter
 advance s c = choose (eqb (c .address % 16) 15) (carry s c) (counter (wrap (c .address) 1) (c .x) (c .y))
 
--- at the end of each line bits are cleared; this counts on no divider
+-- at the end of each line bits are cleared
+abbrev pub cleared : Settings → Counter → Counter
+cleared s c = counter (c .address / 2 ^ kept s * 2 ^ kept s + c .address % 2) (c .x) (c .y)
+
+-- B4 was set, and is so no more
+abbrev pub clearsSetB4 : Settings → Counter → Bool
+clearsSetB4 s c = eqb (b4 c) 1 && eqb (b4 (cleared s c)) 0
+
+-- whether clearing a set B4 counts on the Y divider, as B4's falling does: under rule 1 clearing counts on no divider, under rule 2 this does
+abbrev pub clearingCounts : Rule → Bool
+clearingCounts One = false
+clearingCounts Two = true
+
+-- the counter after a line's end
 unfoldable pub clear : Settings → Counter → Counter
-clear s c = counter (c .address / 2 ^ kept s * 2 ^ kept s + c .address % 2) (c .x) (c .y)
+clear s c = choose (clearingCounts (s .rule) && clearsSetB4 s c) (fall s (cleared s c)) (cleared s c)
 
 -- n bytes further on in a line
 unfoldable pub bytesOn : Settings → ℕ → Counter → Counter

@@ -1,9 +1,11 @@
 // The SAM's video address counter.
+use settings::Rule;
 use settings::Settings;
 ghost use mathlib.Core.Path.{_≡_};
 ghost use Prim.Native.Nat.{_<_};
 ghost use lib.ListN.{getD};
-ghost use Rattle.counter.specs.Counter.{timesX, timesY, keptFrom, start, carry, advance, clear};
+ghost use Rattle.counter.specs.Counter.{timesX, timesY, keptFrom, start, fall, carry, advance, cleared, clearingCounts, clear};
+ghost use Rattle.counter.specs.Steps.{endsCount};
 
 // The address bits B0-B15, and the counts of the X and Y dividers.
 pub struct Counter {
@@ -47,6 +49,26 @@ fn kept_from(v: usize) -> u16
     }
 }
 
+// Whether clearing a set B4 counts on the Y divider.
+fn clearing_counts(rule: Rule) -> bool
+    ensures { λ r. ⌜ r ≡ clearingCounts rule ⌝ }
+{
+    match rule {
+        Rule::One => false,
+        Rule::Two => true,
+    }
+}
+
+// Whether every line's end counts on the Y divider: asked once a frame, it leaves each loop over lines one way to end a line.
+pub fn ends_count(settings: Settings) -> bool
+    ensures { λ r. ⌜ r ≡ endsCount settings ⌝ }
+{
+    let rule = settings.rule;
+    let one_run = settings::width(settings.look) == 16;
+    let kept = kept_from(settings::video_mode(settings));
+    clearing_counts(rule) & (one_run & (kept == 5))
+}
+
 // The counter before a frame's first byte.
 pub fn start(settings: Settings) -> Counter
     ensures { λ r. ⌜ r ≡ start settings ⌝ }
@@ -83,7 +105,7 @@ impl Counter {
                 y: y,
             };
         }
-        // B4 falls. This is no function of its own: a counter that a call returns is packed, which makes fetching slower
+        // B4 falls. `fall` is written out here: a counter that a call returns is packed, which makes fetching slower
         if (y as usize) + 1 < times_y(v) {
             return Counter {
                 address: run - 16,
@@ -113,9 +135,29 @@ impl Counter {
         }
     }
 
-    // The counter after a line's last byte.
-    pub fn clear(self, settings: Settings) -> Counter
-        ensures { λ r. ⌜ r ≡ clear settings self ⌝ }
+    // The counter whose B4 has gone from 1 to 0: the Y divider counts.
+    pub fn fall(self, settings: Settings) -> Counter
+        ensures { λ r. ⌜ r ≡ fall settings self ⌝ }
+    {
+        let v = settings::video_mode(settings);
+        let y = self.y;
+        if (y as usize) + 1 < times_y(v) {
+            return Counter {
+                address: self.address,
+                x: self.x,
+                y: y + 1,
+            };
+        }
+        Counter {
+            address: std::num::wrapping_add_u16(self.address, 32),
+            x: self.x,
+            y: 0,
+        }
+    }
+
+    // The counter with the bits cleared that a line's end clears.
+    pub fn cleared(self, settings: Settings) -> Counter
+        ensures { λ r. ⌜ r ≡ cleared settings self ⌝ }
     {
         let v = settings::video_mode(settings);
         let kept = kept_from(v);
@@ -125,5 +167,18 @@ impl Counter {
             x: self.x,
             y: self.y,
         }
+    }
+
+    // The counter after a line's last byte.
+    pub fn clear(self, settings: Settings) -> Counter
+        ensures { λ r. ⌜ r ≡ clear settings self ⌝ }
+    {
+        let cleared = self.cleared(settings);
+        let rule = settings.rule;
+        let drops = (self.address / 16 % 2 == 1) & (cleared.address / 16 % 2 == 0);
+        if clearing_counts(rule) & drops {
+            return cleared.fall(settings);
+        }
+        cleared
     }
 }

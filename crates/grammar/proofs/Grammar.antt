@@ -4,21 +4,26 @@ use native.Mathlib.Omega.{arith}
 use native.Mathlib.Nat.{le-refl}
 use mathlib.Core.Path.{_≡_, refl, sym, _∙_, ap, subst}
 use mathlib.Core.List.{List, [], _∷_, _++_, append-assoc, append-nil}
+use mathlib.Core.Option.{Option, none}
 use lib.ListN.{length, length-append, replicate, length-replicate}
+use Rattle.settings.specs.declared.Rule.{Rule}
+use Rattle.settings.specs.declared.Rule.the-variants.{One}
 use Rattle.text.specs.Code.{Code, Longest, Reading, got, stuck, Any, None, Accepted, Refused, Right, Prefix, Exact, Some}
-use Rattle.text.specs.Combine.{both, andThen, closed, AllValid, texts, times, upTo, only, readClosed, readTimes, readOnly}
+use Rattle.text.specs.Combine.{both, andThen, closed, optional, AllValid, texts, times, upTo, only, readClosed, readTimes, readOnly}
 use Rattle.text.specs.Hex.{hexCode, readHex}
 use Rattle.text.proofs.Sequences.{both-right, both-prefix, both-exact}
 use Rattle.text.proofs.Renamed.{Same, same-right, same-prefix}
 use Rattle.text.proofs.Words.{led-right, led-prefix}
 use Rattle.text.proofs.Runs.{closed-right, closed-prefix}
+use Rattle.text.proofs.Options.{Starts, optional-right, optional-prefix}
 use Rattle.text.proofs.Repeats.{times-right, times-prefix, upTo-right, upTo-one}
 use Rattle.text.proofs.Exclusions.{only-right, only-prefix}
 use Rattle.text.proofs.Hexes.{hex-right, hex-prefix}
 use Rattle.text.proofs.Back.{back-none}
-use Rattle.grammar.specs.Sheet.{deedByte, keyByte, valueByte, deedWord, pinsWord, writesWord, atWord, eq, nl, deedLine, pinsLine, countCode, writesLine, atLine, Annotation, free, ValidAnnotation, line, annotationLine, Fields, ValidSheet, lines, render, sheets}
-use Rattle.grammar.specs.Read.{readDeed, readPins, readAt, readNumber, readCount, toAnnotation, readAnnotation, readAnnotations, Lines, toFields, readSheet}
+use Rattle.grammar.specs.Sheet.{deedByte, keyByte, valueByte, deedWord, pinsWord, ruleWord, writesWord, atWord, eq, nl, deedLine, pinsLine, ruleCode, ruleLine, countCode, writesLine, atLine, Annotation, free, ValidAnnotation, line, annotationLine, Fields, ValidSheet, lines, render, sheets}
+use Rattle.grammar.specs.Read.{readDeed, readPins, readAt, readRuleDigit, readRuleLine, readNumber, readCount, readRuledCount, toAnnotation, readAnnotation, readAnnotations, Lines, toFields, readSheet}
 use Rattle.grammar.proofs.Numbers.{countCode-right, countCode-prefix}
+use Rattle.grammar.proofs.Rules.{ruleCode-right, ruleCode-prefix}
 use Rattle.grammar.proofs.Keys.{fill}
 
 -- ---- the fixed lines
@@ -34,11 +39,36 @@ pins-right = led-right (pinsWord ++ eq) (hexCode 2 10) 0 (omega arith) (readHex 
 pins-prefix : Prefix pinsLine
 pins-prefix = led-prefix (pinsWord ++ eq) (hexCode 2 10) (hex-prefix 2 10 refl)
 
+rule-right : (s : List ℕ) → Right Any ruleLine s (readRuleLine s)
+rule-right = led-right (ruleWord ++ eq) ruleCode One tt readRuleDigit ruleCode-right
+
+rule-prefix : Prefix ruleLine
+rule-prefix = led-prefix (ruleWord ++ eq) ruleCode ruleCode-prefix
+
 pub count-right : (s : List ℕ) → Right Any writesLine s (readCount s)
 count-right = led-right (writesWord ++ eq) countCode 0 zero-le readNumber countCode-right
 
 count-prefix : Prefix writesLine
 count-prefix = led-prefix (writesWord ++ eq) countCode countCode-prefix
+
+-- the rule, if it is given, and the number of writes: their lines begin with r and w
+abbrev pub ruledCount : Code (Option Rule × ℕ)
+ruledCount = both (optional ruleLine) (λ _. writesLine)
+
+rule-starts : Starts ruleLine 114
+rule-starts r h = (_, refl)
+
+count-starts : Starts writesLine 119
+count-starts n h = (_, refl)
+
+apart : _≡_ {A = ℕ} 119 114 → ⊥
+apart e = omega arith
+
+pub ruled-right : (s : List ℕ) → Right Any ruledCount s (readRuledCount s)
+ruled-right = optional-right ruleLine writesLine 114 119 rule-starts count-starts apart Any readRuleLine readCount rule-prefix 0 zero-le rule-right count-right
+
+ruled-prefix : Prefix ruledCount
+ruled-prefix = optional-prefix ruleLine writesLine 114 119 rule-starts count-starts apart rule-prefix count-prefix
 
 pub at-right : (s : List ℕ) → Right Any atLine s (readAt s)
 at-right = led-right (atWord ++ eq) (hexCode 4 10) 0 (omega arith) (readHex 4 10) (hex-right 4 10 refl)
@@ -106,11 +136,11 @@ annotations-exact l l' h h' e = upTo-one annotationLine readAnnotation annotatio
 abbrev fromWrites : ℕ → Code (List ℕ × List Annotation)
 fromWrites n = both (times n atLine) (λ _. upTo 200 annotationLine)
 
-abbrev fromCount : Code (ℕ × (List ℕ × List Annotation))
-fromCount = both writesLine fromWrites
+abbrev fromRule : Code ((Option Rule × ℕ) × (List ℕ × List Annotation))
+fromRule = both ruledCount (λ ruled. fromWrites (ruled .1))
 
-abbrev fromPins : Code (ℕ × (ℕ × (List ℕ × List Annotation)))
-fromPins = both pinsLine (λ _. fromCount)
+abbrev fromPins : Code (ℕ × ((Option Rule × ℕ) × (List ℕ × List Annotation)))
+fromPins = both pinsLine (λ _. fromRule)
 
 abbrev fromDeed : Code Lines
 fromDeed = both deedLine (λ _. fromPins)
@@ -118,11 +148,11 @@ fromDeed = both deedLine (λ _. fromPins)
 abbrev pub readFromWrites : ℕ → List ℕ → Reading (List ℕ × List Annotation)
 readFromWrites n s = andThen s (readTimes readAt n s) (λ _. readAnnotations)
 
-abbrev pub readFromCount : List ℕ → Reading (ℕ × (List ℕ × List Annotation))
-readFromCount s = andThen s (readCount s) readFromWrites
+abbrev pub readFromRule : List ℕ → Reading ((Option Rule × ℕ) × (List ℕ × List Annotation))
+readFromRule s = andThen s (readRuledCount s) (λ ruled. readFromWrites (ruled .1))
 
-abbrev pub readFromPins : List ℕ → Reading (ℕ × (ℕ × (List ℕ × List Annotation)))
-readFromPins s = andThen s (readPins s) (λ _. readFromCount)
+abbrev pub readFromPins : List ℕ → Reading (ℕ × ((Option Rule × ℕ) × (List ℕ × List Annotation)))
+readFromPins s = andThen s (readPins s) (λ _. readFromRule)
 
 abbrev readFromDeed : List ℕ → Reading Lines
 readFromDeed s = andThen s (readDeed s) (λ _. readFromPins)
@@ -135,21 +165,21 @@ fromWrites-some n = ((replicate n 0, []), ((all n, length-replicate n 0), (tt, z
     all zero = tt
     all (suc n) = (omega arith, all n)
 
-fromCount-some : (v : ℕ × (List ℕ × List Annotation)) × fromCount .Valid v
-fromCount-some = let w = fromWrites-some 0 in ((0, w .0), (zero-le, w .1))
+fromRule-some : (v : (Option Rule × ℕ) × (List ℕ × List Annotation)) × fromRule .Valid v
+fromRule-some = let w = fromWrites-some 0 in (((none, 0), w .0), ((tt, zero-le), w .1))
 
-fromPins-some : (v : ℕ × (ℕ × (List ℕ × List Annotation))) × fromPins .Valid v
-fromPins-some = let w = fromCount-some in ((0, w .0), (omega arith, w .1))
+fromPins-some : (v : ℕ × ((Option Rule × ℕ) × (List ℕ × List Annotation))) × fromPins .Valid v
+fromPins-some = let w = fromRule-some in ((0, w .0), (omega arith, w .1))
 
 -- and is read rightly
 fromWrites-right : (n : ℕ) (s : List ℕ) → Right None (fromWrites n) s (readFromWrites n s)
 fromWrites-right n s = both-right (times n atLine) (λ _. upTo 200 annotationLine) None (writes-prefix n) (λ _ _. ([], (tt, zero-le))) s (readTimes readAt n s) (λ _. readAnnotations) (writes-right n s) (λ _ _. annotations-right)
 
-fromCount-right : (s : List ℕ) → Right None fromCount s (readFromCount s)
-fromCount-right s = both-right writesLine fromWrites None count-prefix (λ n _. fromWrites-some n) s (readCount s) readFromWrites (count-right s) (λ n _. fromWrites-right n)
+fromRule-right : (s : List ℕ) → Right None fromRule s (readFromRule s)
+fromRule-right s = both-right ruledCount (λ ruled. fromWrites (ruled .1)) None ruled-prefix (λ v _. fromWrites-some (v .1)) s (readRuledCount s) (λ ruled. readFromWrites (ruled .1)) (ruled-right s) (λ v _. fromWrites-right (v .1))
 
 fromPins-right : (s : List ℕ) → Right None fromPins s (readFromPins s)
-fromPins-right s = both-right pinsLine (λ _. fromCount) None pins-prefix (λ _ _. fromCount-some) s (readPins s) (λ _. readFromCount) (pins-right s) (λ _ _. fromCount-right)
+fromPins-right s = both-right pinsLine (λ _. fromRule) None pins-prefix (λ _ _. fromRule-some) s (readPins s) (λ _. readFromRule) (pins-right s) (λ _ _. fromRule-right)
 
 fromDeed-right : (s : List ℕ) → Right None fromDeed s (readFromDeed s)
 fromDeed-right s = both-right deedLine (λ _. fromPins) None deed-prefix (λ _ _. fromPins-some) s (readDeed s) (λ _. readFromPins) (deed-right s) (λ _ _. fromPins-right)
@@ -158,28 +188,28 @@ fromDeed-right s = both-right deedLine (λ _. fromPins) None deed-prefix (λ _ _
 fromDeed-exact : Exact fromDeed
 fromDeed-exact =
     both-exact deedLine (λ _. fromPins) deed-prefix λ _.
-    both-exact pinsLine (λ _. fromCount) pins-prefix λ _.
-    both-exact writesLine fromWrites count-prefix λ n.
-    both-exact (times n atLine) (λ _. upTo 200 annotationLine) (writes-prefix n) λ _. annotations-exact
+    both-exact pinsLine (λ _. fromRule) pins-prefix λ _.
+    both-exact ruledCount (λ ruled. fromWrites (ruled .1)) ruled-prefix λ ruled.
+    both-exact (times (ruled .1) atLine) (λ _. upTo 200 annotationLine) (writes-prefix (ruled .1)) λ _. annotations-exact
 
 -- ---- the sheet: the number of writes is the length of their list
 sheet-same : Same fromDeed sheets toFields
 sheet-same = record { valid = valid; text = text; back = back }
   where
-    regroup : (d p w t l : List ℕ) → (d ++ (p ++ (w ++ t))) ++ l ≡ d ++ (p ++ (w ++ (t ++ l)))
-    regroup d p w t l = simp append-assoc
+    regroup : (d p r w t l : List ℕ) → (d ++ (p ++ (r ++ (w ++ t)))) ++ l ≡ d ++ (p ++ ((r ++ w) ++ (t ++ l)))
+    regroup d p r w t l = simp append-assoc
 
     valid : (v : Lines) → fromDeed .Valid v → ValidSheet (toFields v)
-    valid (d, (p, (n, (w, l)))) (hd, (hp, (hn, ((hw, m), hl)))) =
-        record { deedValid = hd; pinsValid = hp; countValid = subst (λ (k : ℕ). k ≤ 64) (sym m) hn; writesValid = hw; annotationsValid = hl }
+    valid (d, (p, ((r, n), (w, l)))) (hd, (hp, ((hr, hn), ((hw, m), hl)))) =
+        record { deedValid = hd; pinsValid = hp; ruleValid = hr; countValid = subst (λ (k : ℕ). k ≤ 64) (sym m) hn; writesValid = hw; annotationsValid = hl }
 
     text : (v : Lines) → fromDeed .Valid v → render (toFields v) ≡ fromDeed .text v
-    text (d, (p, (n, (w, l)))) (hd, (hp, (hn, ((hw, m), hl)))) =
-        regroup (deedLine .text d) (pinsLine .text p) (writesLine .text (length w)) (texts atLine w) (lines l)
-        ∙ ap (λ (k : ℕ). deedLine .text d ++ (pinsLine .text p ++ (writesLine .text k ++ (texts atLine w ++ lines l)))) m
+    text (d, (p, ((r, n), (w, l)))) (hd, (hp, ((hr, hn), ((hw, m), hl)))) =
+        regroup (deedLine .text d) (pinsLine .text p) (optional ruleLine .text r) (writesLine .text (length w)) (texts atLine w) (lines l)
+        ∙ ap (λ (k : ℕ). deedLine .text d ++ (pinsLine .text p ++ (ruledCount .text (r, k) ++ (texts atLine w ++ lines l)))) m
 
     back : (f : Fields) → ValidSheet f → (v : Lines) × fromDeed .Valid v × (toFields v ≡ f)
-    back f h = ((f .deed, (f .pins, (length (f .writes), (f .writes, f .annotations)))), (h .deedValid, (h .pinsValid, (h .countValid, ((h .writesValid, refl), h .annotationsValid)))), refl)
+    back f h = ((f .deed, (f .pins, ((f .rule, length (f .writes)), (f .writes, f .annotations)))), (h .deedValid, (h .pinsValid, ((h .ruleValid, h .countValid), ((h .writesValid, refl), h .annotationsValid)))), refl)
 
 -- the reading of the sheet is right
 pub sheet-right : (s : List ℕ) → Right None sheets s (readSheet s)

@@ -14,11 +14,11 @@ use Rattle.promises.specs.Choose.{choose}
 use Rattle.promises.specs.Told.{told, done}
 use Rattle.promises.specs.Order.{firstOf}
 use Rattle.text.specs.Code.{Reading, got, stuck}
-use Rattle.text.specs.Combine.{AllValid, texts}
+use Rattle.text.specs.Combine.{optional, AllValid, texts}
 use Rattle.text.proofs.Tests.{clash}
 use Rattle.text.proofs.Lists.{le-or-lt}
 use Rattle.text.proofs.Back.{back-any}
-use Rattle.grammar.specs.Sheet.{deedWord, eq, nl, pinsLine, writesLine, atLine, Annotation, line, annotationLine, Fields, ValidSheet, front, lines, render}
+use Rattle.grammar.specs.Sheet.{deedWord, eq, nl, pinsLine, ruleLine, writesLine, atLine, Annotation, line, annotationLine, Fields, ValidSheet, front, lines, render}
 use Rattle.grammar.specs.Read.{readAnnotation, readSheet}
 use Rattle.grammar.specs.Given.{isGot, toldRead, noFields, fieldsRead, accepted, toldIn, fieldsIn, sheetOrder, deedFrom, tailFrom, annotationFrom, annotationAt, lineAt}
 use Rattle.grammar.proofs.Grammar.{accepted-fields, annotation-right, annotation-prefix}
@@ -80,7 +80,7 @@ module _ (s : List ℕ) (h : accepted s ≡ true) where
   deed-split : (t : List ℕ) × (s ≡ (deedWord ++ eq) ++ (fieldsIn s .deed ++ t))
   deed-split =
       let f = fieldsIn s in
-      let rest = pinsLine .text (f .pins) ++ (writesLine .text (length (f .writes)) ++ texts atLine (f .writes)) in (
+      let rest = pinsLine .text (f .pins) ++ (optional ruleLine .text (f .rule) ++ (writesLine .text (length (f .writes)) ++ texts atLine (f .writes))) in (
         nl ++ (rest ++ lines (f .annotations)),
         accepted-render s h .1
             ∙ append-assoc ((deedWord ++ eq) ++ (f .deed ++ nl)) rest (lines (f .annotations))

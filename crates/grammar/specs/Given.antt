@@ -2,11 +2,14 @@
 use Prim.Native.Nat.{ℕ, zero, suc, _+_, _-_}
 use mathlib.Core.List.{List, [], _∷_, _++_}
 use mathlib.Core.Bool.{Bool, true, false, not}
+use mathlib.Core.Option.{Option, none, some}
 use lib.Dec.{ltb}
 use lib.ListN.{length, take, getD, replicate}
 use Rattle.promises.specs.Choose.{choose}
 use Rattle.promises.specs.Told.{Told, told, done}
 use Rattle.promises.specs.Order.{Check, check}
+use Rattle.settings.specs.declared.Rule.{Rule}
+use Rattle.settings.specs.declared.Rule.the-variants.{One}
 use Rattle.text.specs.Code.{Reading, got, stuck}
 use Rattle.grammar.specs.Sheet.{deedWord, eq, Annotation, Fields, line, lines, front}
 use Rattle.grammar.specs.Read.{readSheet}
@@ -21,13 +24,18 @@ abbrev pub toldRead : Reading Fields → Told
 toldRead (got f n) = done 0
 toldRead (stuck n) = told 11 n 0
 
--- a refused sheet yields an empty deed, pins 0, no writes and no annotations
+-- a refused sheet yields an empty deed, pins 0, rule 1, no writes and no annotations
 abbrev pub noFields : Fields
-noFields = record { deed = []; pins = 0; writes = []; annotations = [] }
+noFields = record { deed = []; pins = 0; rule = none; writes = []; annotations = [] }
 
 abbrev pub fieldsRead : Reading Fields → Fields
 fieldsRead (got f n) = f
 fieldsRead (stuck n) = noFields
+
+-- a sheet without the line is rule 1
+abbrev pub ruleGiven : Option Rule → Rule
+ruleGiven none = One
+ruleGiven (some r) = r
 
 -- ---- of the bytes of a sheet
 abbrev pub accepted : List ℕ → Bool

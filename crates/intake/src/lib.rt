@@ -1,6 +1,7 @@
-// From a sheet to the settings that it gives: its writes played from reset, and its pins.
+// From a sheet to the settings that it gives: its writes played from reset, its pins, and its rule.
 use answer::Answer;
 use settings::Look;
+use settings::Rule;
 use settings::Settings;
 ghost use mathlib.Core.Path.{_≡_};
 ghost use Rattle.promises.specs.Told.{done};
@@ -25,6 +26,7 @@ fn refused(answer: Answer, annotations: usize) -> Intake
         settings: Settings {
             word: 0,
             look: Look { pins: 0 },
+            rule: Rule::One,
         },
         annotations,
     }
@@ -56,9 +58,11 @@ pub fn settings_of(sheet: &[u8]) -> Intake
     if answer::number(played) != 0 {
         return refused(played, annotations);
     }
+    let rule = fields.rule;
     let settings = Settings {
         word: answer::value(played) as u16,
         look: Look { pins: fields.pins },
+        rule,
     };
     let answer = settings_answer(settings);
     if answer::number(answer) != 0 {

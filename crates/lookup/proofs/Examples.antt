@@ -1,6 +1,7 @@
 -- Two sheets and some keys, counted out by hand and held against the definitions.
 use Prim.Native.Nat.{ℕ}
 use mathlib.Core.List.{List, [], _∷_, _++_}
+use mathlib.Core.Option.{none}
 use lib.Dec.{T}
 use Rattle.promises.specs.Choose.{choose}
 use Rattle.promises.specs.First.{firstWhere}
@@ -13,7 +14,7 @@ abbrev note : List ℕ → List ℕ → Annotation
 note k v = record { key = k; value = v }
 
 abbrev sheet : List Annotation → List ℕ
-sheet l = render (record { deed = 65 ∷ []; pins = 0; writes = []; annotations = l })
+sheet l = render (record { deed = 65 ∷ []; pins = 0; rule = none; writes = []; annotations = l })
 
 -- the record's sheet has `a=1` and `a=2`; the cover has `b=`, `ab=3` and `a=4`
 abbrev pub recordSheet : List ℕ

@@ -74,8 +74,8 @@ fn tell<'a>(record: &'a [u8], cover: &'a [u8], key: &[u8]) -> bool {
 // claims). A key that is too long for its room is asked for as an empty one: neither can be a key.
 fn by_names() {
     let mut key = io::buffer();
-    let mut record = [0u8; 28153];
-    let mut cover = [0u8; 28153];
+    let mut record = [0u8; 28160];
+    let mut cover = [0u8; 28160];
     let k = os::arg(1, &mut key);
     let of_record = read_arg(&WHO, 2, &mut record);
     let of_cover = read_arg(&WHO, 3, &mut cover);

@@ -19,11 +19,11 @@ fn print(sheet: &[u8]) {
     }
 }
 
-// The longest sheet has 28,152 bytes, and what lies past one byte more cannot change the report (`report-enough` of crate `report_text`).
+// The longest sheet has 28,159 bytes, and what lies past one byte more cannot change the report (`report-enough` of crate `report_text`).
 fn main() {
-    let mut sheet = [0u8; 28153];
+    let mut sheet = [0u8; 28160];
     let n = io::read_full(STDIN_FILENO, &mut sheet);
-    if n < 28153 {
+    if n < 28160 {
         if !ended() {
             io::write_all(STDERR_FILENO, b"report: the input cannot be read\n");
             return;

@@ -16,12 +16,12 @@ use Rattle.grammar.proofs.Length.{none-longer}
 use Rattle.intake.specs.Intake.{intakeTold, settingsIn}
 use Rattle.report_text.specs.Report.{reportOf, textFor}
 
--- the longest sheet has 28,152 bytes
+-- the longest sheet has 28,159 bytes
 abbrev pub enough : ℕ
-enough = 28153
+enough = 28160
 
 -- what some accepted sheet begins with is no longer than the longest sheet
-begins-short : (w : List ℕ) → Begins sheets w → length w ≤ 28152
+begins-short : (w : List ℕ) → Begins sheets w → length w ≤ 28159
 begins-short w (v, t, valid, e) =
     omega (arith, none-longer (render v) (ap isGot (read-back v valid)), ap length e, length-append w t)
 
@@ -30,10 +30,10 @@ module _ (s : List ℕ) (long : enough ≤ length s) (n m : ℕ) (p : Longest sh
   part-long : length (take enough s) ≡ enough
   part-long = length-take-le enough s long
 
-  n-short : n ≤ 28152
+  n-short : n ≤ 28159
   n-short = omega (arith, begins-short (take n s) (p .begun), length-take-le n s (p .within))
 
-  m-short : m ≤ 28152
+  m-short : m ≤ 28159
   m-short = omega (arith, begins-short (take m (take enough s)) (q .begun), length-take-le m (take enough s) (q .within))
 
   same-place : n ≡ m
@@ -42,7 +42,7 @@ module _ (s : List ℕ) (long : enough ≤ length s) (n m : ℕ) (p : Longest sh
       let b : m ≤ n = p .most m (omega (arith, m-short)) (rw (take-take m enough s (omega (arith, m-short))) at (q .begun)) in
       omega arith
 
--- a longer input is read as its first 28,153 bytes are
+-- a longer input is read as its first 28,160 bytes are
 same-by : (s : List ℕ) → enough ≤ length s → (r t : Reading Fields) → readSheet s ≡ r → readSheet (take enough s) ≡ t → t ≡ r
 same-by s long (got f n) t e d = absurd (omega (arith, long, none-longer s (ap isGot e)))
 same-by s long (stuck n) (got f m) e d = absurd (omega (arith, length-take-le enough s long, none-longer (take enough s) (ap isGot d)))

@@ -37,7 +37,7 @@ module _ (l : Look) (r : Name) (e : r ≡ named (modeName l)) where
   pub name-long : length (take (r .len) (r .bytes)) ≡ r .len
   name-long = ap length name-is ∙ rw e
 
--- a deed has at most 16 bytes and the annotation lines at most 28,152, also those of a refused sheet, which has none
+-- a deed has at most 16 bytes and the annotation lines at most 28,159, also those of a refused sheet, which has none
 deed-by : (s : List ℕ) (r : Reading Fields) → readSheet s ≡ r → length (fieldsIn s .deed) ≤ 16
 deed-by s (got f n) e = accepted-render s (ap isGot e) .0 .deedValid .2
 deed-by s (stuck n) e = rw e (omega arith)
@@ -45,11 +45,11 @@ deed-by s (stuck n) e = rw e (omega arith)
 pub deed-small : (s : List ℕ) → length (fieldsIn s .deed) ≤ 16
 deed-small s = deed-by s (readSheet s) refl
 
-tail-by : (s : List ℕ) (r : Reading Fields) → readSheet s ≡ r → length (lines (fieldsIn s .annotations)) ≤ 28152
+tail-by : (s : List ℕ) (r : Reading Fields) → readSheet s ≡ r → length (lines (fieldsIn s .annotations)) ≤ 28159
 tail-by s (got f n) e =
     let a = accepted-render s (ap isGot e) in
     omega (arith, none-longer s (ap isGot e), ap length (a .1), length-append (front (fieldsIn s)) (lines (fieldsIn s .annotations)))
 tail-by s (stuck n) e = rw e (omega arith)
 
-pub tail-small : (s : List ℕ) → length (lines (fieldsIn s .annotations)) ≤ 28152
+pub tail-small : (s : List ℕ) → length (lines (fieldsIn s .annotations)) ≤ 28159
 tail-small s = tail-by s (readSheet s) refl

@@ -1,7 +1,7 @@
--- The report of a sheet (document 01, "The report"): its whole text.
+-- The report of a sheet (document 01, "The report", and CR 6): its whole text.
 use Prim.Native.Nat.{ℕ}
 use mathlib.Core.Bool.{true}
-use mathlib.Core.List.{List, _++_}
+use mathlib.Core.List.{List, [], _∷_, _++_}
 use lib.Dec.{eqb}
 use lib.ListN.{length}
 use Rattle.promises.specs.Choose.{choose}
@@ -11,7 +11,7 @@ use Rattle.settings.specs.declared.Settings.{Settings}
 use Rattle.settings.specs.Modes.{modeName}
 use Rattle.counter.specs.Counter.{addressOf}
 use Rattle.text.specs.Hex.{hex}
-use Rattle.grammar.specs.Sheet.{deedWord, pinsWord, lines}
+use Rattle.grammar.specs.Sheet.{deedWord, pinsWord, ruleWord, ruleDigit, lines}
 use Rattle.grammar.specs.Given.{fieldsIn}
 use Rattle.intake.specs.Intake.{settingsIn, intakeTold}
 use Rattle.report_text.specs.Words.{statusWord, placeWord, controlWord, modeWord, startWord, annotationsWord, decimal, lineOf}
@@ -34,12 +34,16 @@ annotated s = lineOf annotationsWord (decimal (length (fieldsIn s .annotations))
 abbrev pub givenLines : Settings → List ℕ
 givenLines s = lineOf pinsWord (hex 2 (s .look .pins)) ++ lineOf controlWord (hex 4 (s .word))
 
+-- the fetch rule by its digit
+abbrev pub rulePrinted : Settings → List ℕ
+rulePrinted s = lineOf ruleWord (ruleDigit (s .rule) ∷ [])
+
 -- what they show by it: the mode's name, and start in capital hex digits
 abbrev pub viewLines : Settings → List ℕ
 viewLines s = lineOf modeWord (modeName (s .look)) ++ lineOf startWord (hex 4 (addressOf s 0 0))
 
 abbrev pub settingLines : Settings → List ℕ
-settingLines s = givenLines s ++ viewLines s
+settingLines s = givenLines s ++ (rulePrinted s ++ viewLines s)
 
 -- the whole text where t is told of a sheet: a success, a broken sheet, or another refusal
 unfoldable pub textFor : Told → List ℕ → List ℕ

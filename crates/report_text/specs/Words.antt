@@ -8,7 +8,7 @@ use Rattle.promises.specs.Choose.{choose}
 use Rattle.grammar.specs.Sheet.{eq, nl}
 use Rattle.report_text.specs.declared.Text.{Text}
 
--- status, place, control, mode, start, annotations; deed and pins are the sheet's own words
+-- status, place, control, mode, start, annotations; deed, pins and rule are the sheet's own words
 abbrev pub statusWord : List ℕ
 statusWord = 115 ∷ 116 ∷ 97 ∷ 116 ∷ 117 ∷ 115 ∷ []
 

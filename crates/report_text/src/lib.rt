@@ -1,5 +1,6 @@
 // The report's text, whole.
 use answer::Answer;
+use settings::Rule;
 use settings::Settings;
 ghost use mathlib.Core.Path.{_≡_};
 ghost use Prim.Native.Nat.{_+_, _≤_, _<_};
@@ -7,13 +8,13 @@ ghost use mathlib.Core.List.{[], _++_};
 ghost use lib.ListN.{length, drop};
 ghost use Rattle.answer.specs.Told.{toldOf};
 ghost use Rattle.text.specs.Hex.{hexDigit, hex};
-ghost use Rattle.grammar.specs.Sheet.{nl};
+ghost use Rattle.grammar.specs.Sheet.{ruleDigit, nl};
 ghost use Rattle.grammar.specs.Given.{fieldsIn};
 ghost use Rattle.intake.specs.Intake.{settingsIn};
 ghost use Rattle.report_text.specs.Words.{decimal, room, textOf, held, Holds};
-ghost use Rattle.report_text.specs.Report.{givenLines, viewLines, settingLines, annotated, textFor, reportOf, reportAfter};
+ghost use Rattle.report_text.specs.Report.{givenLines, rulePrinted, viewLines, settingLines, annotated, textFor, reportOf, reportAfter};
 
-// The report's own keys; `deed=` and `pins=` are the sheet's.
+// The report's own keys; `deed=`, `pins=` and `rule=` are the sheet's.
 const STATUS_KEY: [u8; 7] = *b"status=";
 
 const PLACE_KEY: [u8; 6] = *b"place=";
@@ -138,6 +139,26 @@ fn given_lines(text: Text, settings: Settings) -> Text
     line(one, &CONTROL_KEY, &control)
 }
 
+// The digit of a rule.
+fn rule_digit(rule: Rule) -> u8
+    ensures { λ r. ⌜ r ≡ ruleDigit rule ⌝ }
+{
+    match rule {
+        Rule::One => b'1',
+        Rule::Two => b'2',
+    }
+}
+
+// The line of the rule.
+fn rule_line(text: Text, settings: Settings) -> Text
+    requires { ⌜ Holds text × (text .len ≤ 1500) ⌝ }
+    ensures { λ r. ⌜ r ≡ textOf (held text ++ rulePrinted settings) ⌝ }
+    ensures { λ r. ⌜ Holds r × (r .len ≤ text .len + 7) ⌝ }
+{
+    let rule = settings.rule;
+    line(text, &scan::RULE_KEY, &[rule_digit(rule)])
+}
+
 // The lines of what the chips then show: mode and start.
 fn view_lines(text: Text, settings: Settings) -> Text
     requires { ⌜ Holds text × (text .len ≤ 2000) ⌝ }
@@ -157,9 +178,9 @@ fn view_lines(text: Text, settings: Settings) -> Text
 fn setting_lines(text: Text, settings: Settings) -> Text
     requires { ⌜ Holds text × (text .len ≤ 1000) ⌝ }
     ensures { λ r. ⌜ r ≡ textOf (held text ++ settingLines settings) ⌝ }
-    ensures { λ r. ⌜ Holds r × (r .len ≤ text .len + 50) ⌝ }
+    ensures { λ r. ⌜ Holds r × (r .len ≤ text .len + 57) ⌝ }
 {
-    view_lines(given_lines(text, settings), settings)
+    view_lines(rule_line(given_lines(text, settings), settings), settings)
 }
 
 // The number of annotations, and the annotation lines as they stand in the sheet.

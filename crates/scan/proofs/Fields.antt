@@ -63,28 +63,39 @@ led-mapped {X} {Y} g k f l = first (readFixed k l)
     first (got u n) = next n (f (drop n l))
     first (stuck n) = refl
 
--- n hex digits after the key
-pub record HexField (k : List ℕ) (n : ℕ) (s : List ℕ) (at size : ℕ) : Type 0 where
-  pub digits : All hexByte (take n (drop (at + length k) s))
-  pub here : readLed k (readHex n 10) (drop at s) ≡ got (hexValue (take n (drop (at + length k) s))) size
+-- n bytes of the class p after the key, and the value that g makes of them
+pub record ValueField {Y : Type 0} (g : List ℕ → Y) (p : ℕ → Bool) (k : List ℕ) (n : ℕ) (s : List ℕ) (at size : ℕ) : Type 0 where
+  pub digits : All p (take n (drop (at + length k) s))
+  pub here : readLed k (λ l. mapped g (readClosed p n n 10 l)) (drop at s) ≡ got (g (take n (drop (at + length k) s))) size
   pub long : size ≡ length k + (n + 1)
   pub within : size ≤ length (drop at s)
 
-module _ (k : List ℕ) (n : ℕ) (s : List ℕ) (at : ℕ) (r : Step) (e : r ≡ stepOf (readLed k (readClosed hexByte n n 10) (drop at s))) where
-  pub hex-field : r .whole ≡ true → HexField k n s at (r .size)
-  hex-field h =
-      let f = field k hexByte n n 48 refl refl (le-refl n) s at r e h in
+module _ {Y : Type 0} (g : List ℕ → Y) (p : ℕ → Bool) (z : ℕ) (off : p 10 ≡ false) (on : p z ≡ true) (k : List ℕ) (n : ℕ) (s : List ℕ) (at : ℕ) (r : Step) (e : r ≡ stepOf (readLed k (readClosed p n n 10) (drop at s))) where
+  pub value-field : r .whole ≡ true → ValueField g p k n s at (r .size)
+  value-field h =
+      let f = field k p n n z off on (le-refl n) s at r e h in
       let w : length (f .bytes) ≡ n = omega (arith, f .valid .1, f .valid .2) in
       let u : f .bytes ≡ take n (drop (at + length k) s) = sym (f .holds) ∙ ap (λ (j : ℕ). take j (drop (at + length k) s)) w in
       record {
-        digits = subst (All hexByte) u (f .valid .0);
-        here = led-mapped hexValue k (readClosed hexByte n n 10) (drop at s) ∙ ap (mapped hexValue) (f .here) ∙ ap (λ (l : List ℕ). got (hexValue l) (r .size)) u;
+        digits = subst (All p) u (f .valid .0);
+        here = led-mapped g k (readClosed p n n 10) (drop at s) ∙ ap (mapped g) (f .here) ∙ ap (λ (l : List ℕ). got (g l) (r .size)) u;
         long = f .long ∙ ap (λ (j : ℕ). length k + (j + 1)) w;
         within = f .within;
       }
 
+  pub value-stuck : r .whole ≡ false → readLed k (λ l. mapped g (readClosed p n n 10 l)) (drop at s) ≡ stuck (r .size)
+  value-stuck h = led-mapped g k (readClosed p n n 10) (drop at s) ∙ ap (mapped g) (not-whole (readLed k (readClosed p n n 10) (drop at s)) r e h)
+
+-- n hex digits after the key
+abbrev pub HexField : List ℕ → ℕ → List ℕ → ℕ → ℕ → Type 0
+HexField = ValueField hexValue hexByte
+
+module _ (k : List ℕ) (n : ℕ) (s : List ℕ) (at : ℕ) (r : Step) (e : r ≡ stepOf (readLed k (readClosed hexByte n n 10) (drop at s))) where
+  pub hex-field : r .whole ≡ true → HexField k n s at (r .size)
+  hex-field = value-field hexValue hexByte 48 refl refl k n s at r e
+
   pub hex-stuck : r .whole ≡ false → readLed k (readHex n 10) (drop at s) ≡ stuck (r .size)
-  hex-stuck h = led-mapped hexValue k (readClosed hexByte n n 10) (drop at s) ∙ ap (mapped hexValue) (not-whole (readLed k (readClosed hexByte n n 10) (drop at s)) r e h)
+  hex-stuck = value-stuck hexValue hexByte 48 refl refl k n s at r e
 
 -- a digit of n that stand from `at` on
 pub digit-at : (s : List ℕ) (at n i : ℕ) → at + n ≤ length s → i < n → All hexByte (take n (drop at s)) → (getD s (at + i) 0 ≡ getD (take n (drop at s)) i 0) × (hexByte (getD s (at + i) 0) ≡ true) × (length (take n (drop at s)) ≡ n)

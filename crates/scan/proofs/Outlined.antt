@@ -8,7 +8,7 @@ use Rattle.promises.specs.Told.{done, told}
 use Rattle.text.specs.Code.{Reading, got, stuck}
 use Rattle.text.proofs.Tests.{clash}
 use Rattle.grammar.specs.Sheet.{Fields, front}
-use Rattle.grammar.specs.Given.{isGot, toldRead, noFields, fieldsRead, padded}
+use Rattle.grammar.specs.Given.{isGot, toldRead, noFields, fieldsRead, ruleGiven, padded}
 use Rattle.scan.specs.Steps.{outlineOf}
 use Rattle.scan.specs.declared.Outline.{Outline}
 
@@ -17,6 +17,7 @@ pub record WholeGiven (o : Reading Fields) (r : Outline) : Type 0 where
   pub told-done : done 0 ≡ toldRead o
   pub deed : r .deed ≡ length (fieldsRead o .deed)
   pub pins : r .pins ≡ fieldsRead o .pins
+  pub rule : r .rule ≡ ruleGiven (fieldsRead o .rule)
   pub writes : r .writes ≡ padded 64 (fieldsRead o .writes)
   pub count : r .«write_count» ≡ length (fieldsRead o .writes)
   pub tail : r .tail ≡ length (front (fieldsRead o))
@@ -32,7 +33,7 @@ module _ (o : Reading Fields) (r : Outline) (e : r ≡ outlineOf o) where
     where
       go : (o : Reading Fields) → r ≡ outlineOf o → WholeGiven o r
       go (got v n) e =
-          record { is-got = refl; told-done = refl; deed = ap (λ (x : Outline). x .deed) e; pins = ap (λ (x : Outline). x .pins) e; writes = ap (λ (x : Outline). x .writes) e; count = ap (λ (x : Outline). x .«write_count») e; tail = ap (λ (x : Outline). x .tail) e }
+          record { is-got = refl; told-done = refl; deed = ap (λ (x : Outline). x .deed) e; pins = ap (λ (x : Outline). x .pins) e; rule = ap (λ (x : Outline). x .rule) e; writes = ap (λ (x : Outline). x .writes) e; count = ap (λ (x : Outline). x .«write_count») e; tail = ap (λ (x : Outline). x .tail) e }
       go (stuck n) e = absurd (clash h (ap (λ (x : Outline). x .whole) e))
 
   pub broken-given : r .whole ≡ false → BrokenGiven o r

@@ -2,14 +2,16 @@
 mod lines;
 mod notes;
 mod numbers;
+mod rules;
 
 use lines::keyed_line;
 use notes::annotation_line;
 use notes::annotation_lines;
 use notes::annotation_start;
-use numbers::count_line;
 use numbers::hex_value;
 use numbers::write_lines;
+use rules::ruled_count;
+use settings::Rule;
 ghost use mathlib.Core.Path.{_≡_};
 ghost use lib.ListN.{length};
 ghost use Rattle.text.specs.Code.{stuck};
@@ -17,10 +19,12 @@ ghost use Rattle.grammar.specs.Read.{readSheet};
 ghost use Rattle.grammar.specs.Given.{fieldsIn, annotationFrom, lineAt};
 ghost use Rattle.scan.specs.Steps.{outlineOf};
 
-// The fixed keys, as they stand in a sheet and in a report.
+// The keys of the fixed lines, as they stand in a sheet and in a report.
 pub const DEED_KEY: [u8; 5] = *b"deed=";
 
 pub const PINS_KEY: [u8; 5] = *b"pins=";
+
+pub const RULE_KEY: [u8; 5] = *b"rule=";
 
 const WRITES_KEY: [u8; 7] = *b"writes=";
 
@@ -32,6 +36,7 @@ enum Class {
     Hex,
     Key,
     Value,
+    RuleDigit,
 }
 
 // How far a reading goes: whether it is whole, and its number of bytes or the place where it sticks.
@@ -44,6 +49,21 @@ struct Step {
 struct Counted {
     whole: bool,
     size: usize,
+    count: usize,
+}
+
+// How far a reading goes, and the rule that it finds.
+struct Ruled {
+    whole: bool,
+    size: usize,
+    rule: Rule,
+}
+
+// How far a reading goes, the rule, and the number of writes.
+struct RuledCount {
+    whole: bool,
+    size: usize,
+    rule: Rule,
     count: usize,
 }
 
@@ -60,6 +80,7 @@ pub struct Outline {
     pub place: usize,
     pub deed: usize,
     pub pins: u8,
+    pub rule: Rule,
     pub writes: [u16; 64],
     pub write_count: usize,
     pub tail: usize,
@@ -81,6 +102,7 @@ fn broken(place: usize) -> Outline
         place,
         deed: 0,
         pins: 0,
+        rule: Rule::One,
         writes: [0u16; 64],
         write_count: 0,
         tail: 0,
@@ -101,13 +123,13 @@ pub fn survey(s: &[u8]) -> Outline
     if !pins.whole {
         return broken(pins_at + pins.size);
     }
-    let count_at = pins_at + pins.size;
-    let count = count_line(s, count_at);
-    if !count.whole {
-        return broken(count_at + count.size);
+    let rule_at = pins_at + pins.size;
+    let ruled = ruled_count(s, rule_at);
+    if !ruled.whole {
+        return broken(rule_at + ruled.size);
     }
-    let writes_at = count_at + count.size;
-    let lines = write_lines(s, writes_at, count.count);
+    let writes_at = rule_at + ruled.size;
+    let lines = write_lines(s, writes_at, ruled.count);
     if !lines.whole {
         return broken(writes_at + lines.size);
     }
@@ -116,6 +138,7 @@ pub fn survey(s: &[u8]) -> Outline
     if !notes.whole {
         return broken(tail + notes.size);
     }
+    let rule = ruled.rule;
     let writes = lines.writes;
     // Beside the deed its line has `deed=` and the line end, 6 bytes.
     Outline {
@@ -123,8 +146,9 @@ pub fn survey(s: &[u8]) -> Outline
         place: 0,
         deed: deed.size - 6,
         pins: hex_value(s, pins_at + PINS_KEY.len(), 2) as u8,
+        rule,
         writes,
-        write_count: count.count,
+        write_count: ruled.count,
         tail,
         annotations: notes.count,
     }

@@ -24,6 +24,7 @@ fn in_class(class: Class, b: u8) -> bool
         Class::Hex => within(b'0', b'9', b) | within(b'A', b'F', b),
         Class::Key => within(b'a', b'z', b) | (b == b'-'),
         Class::Value => b != 10,
+        Class::RuleDigit => within(b'1', b'2', b),
     }
 }
 

@@ -28,7 +28,7 @@ fn is_key(s: &[u8], at: usize, n: usize, key: &[u8]) -> bool
     false
 }
 
-// Whether the `n` bytes from `at` on, a key with its `=`, are none of the fixed ones.
+// Whether the `n` bytes from `at` on, a key with its `=`, are none of those that no annotation has; `rule` stays free.
 fn is_free(s: &[u8], at: usize, n: usize) -> bool
     requires { ⌜ at + n ≤ length (now s) ⌝ }
     ensures { λ r. ⌜ r ≡ freeKey (take n (drop at (now (s .entry)))) ⌝ }

@@ -1,16 +1,27 @@
--- The fields of the control word (document 003) and the pins of the pin byte (document 01).
+-- The fields of the control word (document 003), the pins of the pin byte (document 01), and the fetch rule (CR 6).
 use Prim.Native.Nat.{ℕ, _/_, _%_, _^_}
 use mathlib.Core.Bool.{Bool, not, _&&_}
 use lib.Dec.{eqb}
 use Rattle.settings.specs.declared.Look.{Look}
+use Rattle.settings.specs.declared.Rule.{Rule}
+use Rattle.settings.specs.declared.Rule.the-variants.{One, Two}
 use Rattle.settings.specs.declared.Settings.{Settings}
 
--- a look by its pin byte, and settings by their word and pin byte: where definitions and proofs make one, they make it here
+-- a look by its pin byte, and settings by their word, pin byte and rule: where definitions and proofs make one, they make it here
 abbrev pub lookOf : ℕ → Look
 lookOf p = record { pins = p }
 
-abbrev pub settingsOf : ℕ → ℕ → Settings
-settingsOf w p = record { word = w; look = lookOf p }
+abbrev pub settingsOf : ℕ → ℕ → Rule → Settings
+settingsOf w p r = record { word = w; look = lookOf p; rule = r }
+
+-- a rule's number
+abbrev pub ruleNumber : Rule → ℕ
+ruleNumber One = 1
+ruleNumber Two = 2
+
+-- the same settings under a rule
+abbrev pub under : Rule → Settings → Settings
+under r s = record { word = s .word; look = s .look; rule = r }
 
 -- n bits of w, from bit `at` on
 abbrev pub bits : ℕ → ℕ → ℕ → ℕ

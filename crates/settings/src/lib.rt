@@ -14,10 +14,17 @@ pub struct Look {
     pub pins: u8,
 }
 
-// All that decides a frame but its bytes: the SAM's control word, and the look.
+// The fetch rule: what a line's end counts where it clears a set B4. Under rule 1 nothing, under rule 2 the Y divider, as where B4 falls.
+pub enum Rule {
+    One,
+    Two,
+}
+
+// All that decides a frame but its bytes: the SAM's control word, the look, and the fetch rule.
 pub struct Settings {
     pub word: u16,
     pub look: Look,
+    pub rule: Rule,
 }
 
 // A mode's name: the first `len` bytes, the rest 0.

@@ -20,6 +20,7 @@ read-fixes = record {
     λ i. record {
       answer = one-answer {a = z .answer} {b = z′ .answer} (p .told) (q .told) i;
       pins = (p .pins ∙ sym (q .pins)) i;
+      rule = (p .rule ∙ sym (q .rule)) i;
       writes = (p .writes ∙ sym (q .writes)) i;
       «write_count» = (p .count ∙ sym (q .count)) i;
       annotations = (p .annotations ∙ sym (q .annotations)) i;

@@ -2,17 +2,19 @@
 use answer::Answer;
 use answer::Spot;
 use scan::DEED_KEY;
+use settings::Rule;
 ghost use lib.ListN.{length};
 ghost use Rattle.promises.specs.Part.{PartOf};
 ghost use Rattle.grammar.specs.Sheet.{lines};
 ghost use Rattle.grammar.specs.Given.{fieldsIn, deedFrom, tailFrom, annotationFrom, lineAt};
 ghost use Rattle.sheet.specs.Held.{HeldIn};
 
-// What a sheet holds: its pins, its write addresses with 0 in the places that are not used, and its number of annotations.
-// A refused sheet's answer has the place; its fields are 0.
+// What a sheet holds: its pins, its rule, its write addresses with 0 in the places that are not used, and its number of annotations.
+// A refused sheet's answer has the place; its rule is 1 and its other fields are 0.
 pub struct Sheet {
     pub answer: Answer,
     pub pins: u8,
+    pub rule: Rule,
     pub writes: [u16; 64],
     pub write_count: usize,
     pub annotations: usize,
@@ -23,11 +25,13 @@ pub fn read(sheet: &[u8]) -> Sheet
     ensures { λ r. ⌜ HeldIn (now (sheet .entry)) r ⌝ }
 {
     let found = scan::survey(sheet);
+    let rule = found.rule;
     let writes = found.writes;
     if found.whole {
         return Sheet {
             answer: Answer::Done(0),
             pins: found.pins,
+            rule,
             writes,
             write_count: found.write_count,
             annotations: found.annotations,
@@ -36,6 +40,7 @@ pub fn read(sheet: &[u8]) -> Sheet
     Sheet {
         answer: Answer::At(Spot::BrokenSheet, found.place),
         pins: 0,
+        rule: Rule::One,
         writes: [0u16; 64],
         write_count: 0,
         annotations: 0,

@@ -1,35 +1,43 @@
 -- Laws of lines and frames: a line is its runs, and a frame its lines.
-use Prim.Native.Nat.{ℕ, _+_, _-_, _*_, _/_, _<_, _≤_}
+use Prim.Native.Nat.{ℕ, _+_, _-_, _*_, _/_, _<_, _≤_, zero-le}
 use mathlib.Core.Path.{_≡_, sym, ap, _∙_}
-use mathlib.Core.Bool.{true}
+use mathlib.Core.Bool.{true, false, _&&_}
 use mathlib.Core.List.{List}
 use mathlib.Core.Logic.{⊎-elim}
-use native.Mathlib.Nat.{suc-mul, mul-le-mul-right}
+use native.Mathlib.Nat.{zero-mul, suc-mul, mul-le-mul-right}
 use native.Mathlib.Numerals.{add-one}
 use native.Mathlib.Omega.{arith}
 use lib.Arith.{digits-div, digits-mod}
+use borrow.Author.Tests.{eqb-true}
+use lib.Dec.{eqb}
 use lib.ListN.{length, getD}
 use Rattle.promises.specs.Written.{Filled}
-use Rattle.promises.proofs.Fills.{by, join, upto}
+use Rattle.promises.proofs.Choices.{both-pass}
+use Rattle.promises.proofs.Fills.{none, by, join, upto}
 use Rattle.settings.specs.declared.Settings.{Settings}
 use Rattle.settings.specs.Modes.{width}
 use Rattle.settings.specs.Refusals.{imageFits}
 use Rattle.settings.proofs.Widths.{width-cases}
 use Rattle.counter.specs.declared.Counter.{Counter}
-use Rattle.counter.specs.Counter.{carry, clear, bytesOn, lineStart, addressOf}
-use Rattle.counter.proofs.Walks.{bytesOn-on, lineStart-more}
+use Rattle.counter.specs.Counter.{fall, carry, cleared, clearingCounts, bytesOn, start, lineStart, addressOf}
+use Rattle.counter.specs.Steps.{clearsB4, endsCount}
+use Rattle.counter.proofs.Walks.{bytesOn-on, lineStart-none}
 use Rattle.counter.proofs.Runs.{Aligned, in-run, run-end, runs-aligned}
+use Rattle.counter.proofs.Ends.{plain-end, row-end}
 use Rattle.strip.specs.Fetch.{imagePlace, byteOn, fetchPlace, fetchedByte}
 use Rattle.strip.proofs.Places.{place-moves}
 
 module _ (s : Settings) (image : List ℕ) (fits : imageFits (length image) ≡ true) (from : Counter) (al : Aligned from) where
-  -- byte j of run n lies j past the run's place
+  -- byte j of a run lies j past the run's place
+  in-place : (c : Counter) → Aligned c → (j : ℕ) → j < 16 → getD image (imagePlace s (length image) (c .address) + j) 0 ≡ byteOn s image c j
+  in-place c a j h =
+      ap (λ (p : ℕ). getD image p 0) (sym (place-moves s (length image) fits c a j h))
+      ∙ sym (ap (λ (d : Counter). getD image (imagePlace s (length image) (d .address)) 0) (in-run s c a j h))
+
   run-byte : (n j : ℕ) → j < 16 → getD image (imagePlace s (length image) (bytesOn s (16 * n) from .address) + j) 0 ≡ byteOn s image from (16 * n + j)
   run-byte n j h =
-      let c : Counter = bytesOn s (16 * n) from in
-      let a = runs-aligned s from al n in
-      ap (λ (p : ℕ). getD image p 0) (sym (place-moves s (length image) fits c a j h))
-      ∙ sym (ap (λ (d : Counter). getD image (imagePlace s (length image) (d .address)) 0) (bytesOn-on s (16 * n) j from ∙ in-run s c a j h))
+      in-place (bytesOn s (16 * n) from) (runs-aligned s from al n) j h
+      ∙ sym (ap (λ (d : Counter). getD image (imagePlace s (length image) (d .address)) 0) (bytesOn-on s (16 * n) j from))
 
   abbrev lineBytes : ℕ → ℕ → ℕ
   lineBytes at k = byteOn s image from (k - at)
@@ -46,6 +54,11 @@ module _ (s : Settings) (image : List ℕ) (fits : imageFits (length image) ≡ 
           let d : 16 * n + (k - (at + 16 * n)) ≡ k - at = omega arith in
           rw e (run-byte n (k - (at + 16 * n)) (omega arith) ∙ ap (byteOn s image from) d)
 
+  -- a line of one run
+  pub one-run : (at : ℕ) {p : ℕ} {y z : List ℕ} → p ≡ imagePlace s (length image) (from .address)
+      → Filled (λ k. getD image (p + (k - at)) 0) at (at + 16) y z → Filled (lineBytes at) at (at + 16) y z
+  one-run at e g = by (λ k h l. rw e (in-place from al (k - at) (omega arith))) g
+
 -- the counter after one run more
 pub run-more : (s : Settings) (from : Counter) → Aligned from → (n : ℕ) {c d : Counter} → c ≡ bytesOn s (16 * n) from → d ≡ carry s c → d ≡ bytesOn s (16 * (n + 1)) from
 run-more s from al n {c} {d} p q =
@@ -59,6 +72,16 @@ whole-runs s = ⊎-elim (λ e. rw e (omega arith, omega arith)) (λ e. rw e (ome
 module _ (s : Settings) (image : List ℕ) where
   abbrev w : ℕ
   w = width (s .look)
+
+  -- what a loop over the lines knows before line n: the counter, and the bytes that are stored
+  abbrev pub Before : List ℕ → List ℕ → Counter → ℕ → Type 0
+  Before old new c n = (n ≤ 192) × (c ≡ lineStart s n) × Filled (fetchedByte s image) 0 (n * w) old new
+
+  pub before-first : {old : List ℕ} {c : Counter} → c ≡ start s → Before old old c 0
+  before-first {old} e = (zero-le, rw lineStart-none e, upto (sym (zero-mul w)) (none _ _ _))
+
+  pub after-last : {old new : List ℕ} {c : Counter} {n : ℕ} → Before old new c n → 192 ≤ n → Filled (fetchedByte s image) 0 (192 * w) old new
+  after-last {n = n} b h = let e : n ≡ 192 = omega (arith, b .0) in upto (ap (λ (k : ℕ). k * w) e) (b .2)
 
   -- line n ends within the frame's 192 lines
   pub line-within : (n : ℕ) → n < 192 → n * w + w ≤ 192 * w
@@ -84,8 +107,15 @@ module _ (s : Settings) (image : List ℕ) where
           let d : n * w + (k - n * w) ≡ k = omega arith in
           rw p (byte-of-line n (k - n * w) (omega arith) ∙ ap (fetchedByte s image) d)
 
-  -- and the counter after it
-  pub start-more : (n : ℕ) {wide : ℕ} {c d e : Counter} → wide ≡ w → c ≡ lineStart s n → d ≡ bytesOn s (16 * (wide / 16)) c → e ≡ clear s d → e ≡ lineStart s (n + 1)
-  start-more n {wide} {c} {d} {e} h p q r =
+  -- and the counter after it, where nothing counts at its end
+  pub start-more : endsCount s ≡ false → (n : ℕ) {wide : ℕ} {c d e : Counter} → wide ≡ w → c ≡ lineStart s n → d ≡ bytesOn s (16 * (wide / 16)) c → e ≡ cleared s d → e ≡ lineStart s (n + 1)
+  start-more f n {wide} {c} {d} {e} h p q r =
       let t : 16 * (wide / 16) ≡ w = rw h (whole-runs s .0) in
-      rw lineStart-more (r ∙ ap (clear s) (q ∙ ap (λ (k : ℕ). bytesOn s k c) t ∙ ap (bytesOn s w) p))
+      r ∙ ap (cleared s) (q ∙ ap (λ (k : ℕ). bytesOn s k c) t ∙ ap (bytesOn s w) p) ∙ sym (plain-end s f n)
+
+  -- and where the Y divider does, in which case W is 16
+  pub row-more : endsCount s ≡ true → (n : ℕ) {c e : Counter} → c ≡ lineStart s n → e ≡ fall s c → e ≡ lineStart s (n + 1)
+  row-more t n p r = r ∙ ap (fall s) p ∙ sym (row-end s t n)
+
+  pub row-wide : endsCount s ≡ true → 16 ≡ w
+  row-wide t = sym (eqb-true w 16 (both-pass (eqb w 16) (clearsB4 s) (both-pass (clearingCounts (s .rule)) (eqb w 16 && clearsB4 s) t .1) .0))

@@ -3,7 +3,7 @@ use answer::Answer;
 use counter::Counter;
 use settings::Settings;
 ghost use mathlib.Core.Path.{_≡_};
-ghost use mathlib.Core.Bool.{true};
+ghost use mathlib.Core.Bool.{true, false};
 ghost use Prim.Native.Nat.{_+_, _-_, _*_, _<_, _≤_, _/_};
 ghost use lib.ListN.{length, getD, replicate};
 ghost use Rattle.promises.specs.Told.{done};
@@ -13,8 +13,12 @@ ghost use Rattle.answer.specs.Told.{toldOf};
 ghost use Rattle.settings.specs.Modes.{width};
 ghost use Rattle.settings.specs.Refusals.{imageFits, stripLength};
 ghost use Rattle.counter.specs.Counter.{bytesOn};
+ghost use Rattle.counter.specs.Steps.{endsCount};
 ghost use Rattle.counter.proofs.Runs.{Aligned};
 ghost use Rattle.strip.specs.Fetch.{imagePlace, byteOn, fetchedByte, fetchLengths, fetchTold, stripAfter};
+
+// The active lines of a frame.
+const LINES: usize = 192;
 
 // The place in an image of an address.
 fn place(settings: Settings, size: usize, address: u16) -> usize
@@ -84,19 +88,48 @@ fn line(
     counter
 }
 
-// Fetches the frame's 192 lines.
+// Fetches the frame's 192 lines, where nothing counts at any line's end.
 fn lines(settings: Settings, image: &[u8], strip: &mut [u8])
-    requires { ⌜ (imageFits (length (now image)) ≡ true) × (192 * width (settings .look) ≤ length (now strip)) ⌝ }
+    requires { ⌜ (imageFits (length (now image)) ≡ true) × (192 * width (settings .look) ≤ length (now strip)) × (endsCount settings ≡ false) ⌝ }
     ensures { λ _. ⌜ Filled (fetchedByte settings (now (image .entry))) 0 (192 * width (settings .look)) (now (strip .entry)) (now (strip .exit)) ⌝ }
 {
     let wide = settings::width(settings.look);
     let runs = wide / 16;
     let mut counter = counter::start(settings);
     let mut n = 0;
-    while n < 192 {
+    while n < LINES {
         let end = line(settings, counter, runs, image, strip, n * wide);
-        counter = end.clear(settings);
+        counter = end.cleared(settings);
         n += 1;
+    }
+}
+
+// The same where the Y divider counts at each: a line has one run, and its end brings B0-B4 back to where they were.
+// The run is not copied by `line`: what two loops call is compiled as a call, which makes both slower.
+fn rows(settings: Settings, image: &[u8], strip: &mut [u8])
+    requires { ⌜ (imageFits (length (now image)) ≡ true) × (192 * width (settings .look) ≤ length (now strip)) × (endsCount settings ≡ true) ⌝ }
+    ensures { λ _. ⌜ Filled (fetchedByte settings (now (image .entry))) 0 (192 * width (settings .look)) (now (strip .entry)) (now (strip .exit)) ⌝ }
+{
+    let size = image.len();
+    let mut counter = counter::start(settings);
+    let mut n = 0;
+    while n < LINES {
+        let run = place(settings, size, counter.address);
+        copy_run(image, run, strip, n * 16);
+        counter = counter.fall(settings);
+        n += 1;
+    }
+}
+
+// The 192 lines, however they end.
+fn all_lines(settings: Settings, image: &[u8], strip: &mut [u8])
+    requires { ⌜ (imageFits (length (now image)) ≡ true) × (192 * width (settings .look) ≤ length (now strip)) ⌝ }
+    ensures { λ _. ⌜ Filled (fetchedByte settings (now (image .entry))) 0 (192 * width (settings .look)) (now (strip .entry)) (now (strip .exit)) ⌝ }
+{
+    if counter::ends_count(settings) {
+        rows(settings, image, strip);
+    } else {
+        lines(settings, image, strip);
     }
 }
 
@@ -121,6 +154,6 @@ pub fn fetch(settings: Settings, image: &[u8], strip: &mut [u8]) -> Answer
     if answer::number(answer) != 0 {
         return answer;
     }
-    lines(settings, image, strip);
+    all_lines(settings, image, strip);
     answer
 }

@@ -6,6 +6,7 @@ pub mod Renamed
 pub mod Steps
 pub mod Words
 pub mod Runs
+pub mod Options
 pub mod Repeats
 pub mod Exclusions
 pub mod Hexes

@@ -1,8 +1,9 @@
--- Codes made of others, each with its reading: a sequence, a fixed word, a closed run of a class, a count, up to n, an exclusion.
+-- Codes made of others, each with its reading: a sequence, a fixed word, a closed run of a class, an option, a count, up to n, an exclusion.
 use Prim.Native.Nat.{ℕ, zero, suc, _+_, _-_, _≤_}
 use mathlib.Core.Path.{_≡_}
 use mathlib.Core.List.{List, [], _∷_, _++_}
 use mathlib.Core.Bool.{Bool, true, _&&_}
+use mathlib.Core.Option.{Option, none, some}
 use lib.ListN.{length, take, drop, getD}
 use lib.Dec.{leb, ltb, eqb}
 use Rattle.promises.specs.Choose.{choose}
@@ -74,6 +75,23 @@ readClosedAt lo e s n = choose (leb lo n && (ltb n (length s) && eqb (getD s n 0
 
 abbrev pub readClosed : (ℕ → Bool) → ℕ → ℕ → ℕ → List ℕ → Reading (List ℕ)
 readClosed p lo hi e s = readClosedAt lo e s (span p hi s)
+
+-- ---- an option: a value of the code, or nothing
+abbrev pub ValidIf : {X : Type 0} → Code X → Option X → Type 0
+ValidIf C none = Unit {0}
+ValidIf C (some v) = C .Valid v
+
+abbrev pub textIf : {X : Type 0} → Code X → Option X → List ℕ
+textIf C none = []
+textIf C (some v) = C .text v
+
+abbrev pub optional : {X : Type 0} → Code X → Code (Option X)
+optional C = record { Valid = ValidIf C; text = textIf C }
+
+-- the byte a, with which every text of the code begins, tells whether one stands there
+abbrev pub readOptional : {X : Type 0} → ℕ → (List ℕ → Reading X) → List ℕ → Reading (Option X)
+readOptional a f [] = got none 0
+readOptional a f (b ∷ s) = choose (eqb b a) (mapped some (f (b ∷ s))) (got none 0)
 
 -- ---- several of one code, one after the other: all are valid, and their texts joined
 abbrev pub AllValid : {X : Type 0} → Code X → List X → Type 0

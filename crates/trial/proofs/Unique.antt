@@ -1,7 +1,7 @@
 -- Every public function of `trial`: its contract takes every input and allows one outcome. Those that print answer nothing, and are lent nothing that they can write.
 use mathlib.Core.Path.{refl, sym, _∙_}
 use base.Logic.{emp, id⊢}
-use Rattle.promises.specs.Fixes.{Operation, Fixes, whole, placed, one-tells, two-tell}
+use Rattle.promises.specs.Fixes.{Operation, Fixes, whole, placed, one-tells, three-tell}
 use Rattle.promises.proofs.Parts.{one-part}
 use Rattle.trial.proofs.look_of as look-of
 use Rattle.trial.proofs.settings_of as settings-of
@@ -16,6 +16,7 @@ use Rattle.trial.proofs.say as say
 use Rattle.trial.proofs.form as form
 use Rattle.trial.proofs.one as one
 use Rattle.trial.proofs.figure_name as figure-name
+use Rattle.trial.proofs.rule_name as rule-name
 use Rattle.trial.proofs.number_and_place as number-and-place
 use Rattle.trial.proofs.answered as answered
 use Rattle.trial.proofs.quoted as quoted
@@ -36,11 +37,12 @@ settings-of-op = record { key = settings-of.Key.name; T = settings-of.ended; cla
 pub settings-of-fixes : Fixes settings-of-op
 settings-of-fixes = record {
   takes-all = λ w κs a g. id⊢ (w .𝓤) (emp (w .𝓤));
-  tells = λ w κs a g z e. two-tell (w .𝓤) _ _;
+  tells = λ w κs a g z e. three-tell (w .𝓤) _ _ _;
   one-outcome = λ κs a z z′ ws ws′ p q. (
     λ i. record {
       word = (p .0 ∙ sym (q .0)) i;
-      look = record { pins = (p .1 ∙ sym (q .1)) i };
+      look = record { pins = (p .1 .0 ∙ sym (q .1 .0)) i };
+      rule = (p .1 .1 ∙ sym (q .1 .1)) i;
     },
     refl,
   );
@@ -151,6 +153,16 @@ figure-name-op = record { key = figure-name.Key.name; T = figure-name.ended; cla
 
 pub figure-name-fixes : Fixes figure-name-op
 figure-name-fixes = record {
+  takes-all = λ w κs a g. id⊢ (w .𝓤) (emp (w .𝓤));
+  tells = λ w κs a g z e. one-tells (w .𝓤) _;
+  one-outcome = λ κs a z z′ ws ws′ p q. (refl, refl);
+}
+
+abbrev pub rule-name-op : Operation
+rule-name-op = record { key = rule-name.Key.name; T = rule-name.ended; clauses = λ M. rule-name.clauses; Says = rule-name.Reads.Learnt; O = _; seen = λ κs. whole }
+
+pub rule-name-fixes : Fixes rule-name-op
+rule-name-fixes = record {
   takes-all = λ w κs a g. id⊢ (w .𝓤) (emp (w .𝓤));
   tells = λ w κs a g z e. one-tells (w .𝓤) _;
   one-outcome = λ κs a z z′ ws ws′ p q. (refl, refl);

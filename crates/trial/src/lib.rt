@@ -3,6 +3,7 @@ use answer::Answer;
 use libc::STDERR_FILENO;
 use libc::STDOUT_FILENO;
 use settings::Look;
+use settings::Rule;
 use settings::Settings;
 ghost use mathlib.Core.Path.{_≡_};
 ghost use Prim.Native.Nat.{_<_, _+_, _*_, _%_, min};
@@ -11,6 +12,7 @@ ghost use lib.ListN.{length, getD};
 ghost use Rattle.promises.specs.Choose.{choose};
 ghost use Rattle.promises.specs.Part.{PartOf};
 ghost use Rattle.promises.specs.Written.{written};
+ghost use Rattle.settings.specs.declared.Rule.the-variants.{One, Two};
 ghost use Rattle.trial.specs.Buffers.{run, laid, marked, unchangedFrom, sumOf};
 
 // == Settings and buffers: made, cut short, and read.
@@ -24,14 +26,23 @@ pub fn look_of(pins: usize) -> Look
     }
 }
 
-// Settings by their word and pins.
-pub fn settings_of(word: usize, pins: usize) -> Settings
+// A rule by its number: 2, and for every other number 1.
+fn rule_of(number: usize) -> Rule
+    ensures { λ r. ⌜ r ≡ choose (eqb number 2) Two One ⌝ }
+{
+    if number == 2 { Rule::Two } else { Rule::One }
+}
+
+// Settings by their word, pins and rule.
+pub fn settings_of(word: usize, pins: usize, rule: usize) -> Settings
     ensures { λ r. ⌜ r .word ≡ word % 65536 ⌝ }
     ensures { λ r. ⌜ r .look .pins ≡ pins % 256 ⌝ }
+    ensures { λ r. ⌜ r .rule ≡ choose (eqb rule 2) Two One ⌝ }
 {
     Settings {
         word: (word % 65536) as u16,
         look: look_of(pins),
+        rule: rule_of(rule),
     }
 }
 
@@ -222,6 +233,15 @@ pub fn figure_name(n: usize)
 {
     if 0 < n {
         one(b"P# ", n);
+    }
+}
+
+// Prints the rule that a line is under, if it is rule 2.
+pub fn rule_name(n: usize)
+    ensures { λ r. ⌜ r ≡ tt {0} ⌝ }
+{
+    if n == 2 {
+        say(b"rule 2 ");
     }
 }
 

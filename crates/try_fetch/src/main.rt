@@ -1,4 +1,4 @@
-// Tries fetching: the addresses of document 01's figures, each refusal, buffers of all lengths, and whole strips by their sums.
+// Tries fetching: the addresses of document 01's figures, each refusal, buffers of all lengths, and whole strips by their sums; then rule 2.
 // Prints a line for each.
 use counter::Counter;
 use settings::Settings;
@@ -11,6 +11,7 @@ use trial::lay;
 use trial::least;
 use trial::mark;
 use trial::one;
+use trial::rule_name;
 use trial::settings_of;
 use trial::sum;
 use trial::unchanged_from;
@@ -60,9 +61,9 @@ fn counted(settings: Settings, line: usize, byte: usize) -> u16 {
 }
 
 // The byte at a place of the strip that is fetched from an image of 65,536 bytes, with M1 set for that length.
-fn fetched(word: usize, pins: usize, image: &[u8], k: usize) -> usize {
+fn fetched(word: usize, pins: usize, rule: usize, image: &[u8], k: usize) -> usize {
     let mut strip = [0u8; 6144];
-    let settings = settings_of(word % 16384 + 0x4000, pins);
+    let settings = settings_of(word % 16384 + 0x4000, pins, rule);
     strip::fetch(settings, image, &mut strip);
     byte_at(&strip, k)
 }
@@ -72,6 +73,7 @@ fn address_figure(
     n: usize,
     word: usize,
     pins: usize,
+    rule: usize,
     line: usize,
     byte: usize,
     low: &[u8],
@@ -79,33 +81,48 @@ fn address_figure(
 )
     requires { ⌜ (line < 192) × (byte < 32) ⌝ }
 {
-    let settings = settings_of(word, pins);
+    let settings = settings_of(word, pins, rule);
     let address = counted(settings, line, byte);
     let k = place(settings::width(settings.look), line, byte);
     figure_name(n);
+    rule_name(rule);
     form(b"word $ pins % line # byte #", &[word, pins, line, byte]);
     form(
         b": address $, fetched %%\n",
         &[
             address as usize,
-            fetched(word, pins, high, k),
-            fetched(word, pins, low, k),
+            fetched(word, pins, rule, high, k),
+            fetched(word, pins, rule, low, k),
         ],
     );
 }
 
 // The figures.
 fn addresses(low: &[u8], high: &[u8]) {
-    address_figure(5, 0x0011, 0x20, 2, 15, low, high);
-    address_figure(5, 0x0011, 0x20, 3, 0, low, high);
-    address_figure(5, 0x0011, 0x20, 191, 15, low, high);
-    address_figure(6, 0x0000, 0x00, 12, 0, low, high);
-    address_figure(6, 0x0000, 0x00, 191, 31, low, high);
-    address_figure(7, 0x03FE, 0x2E, 15, 31, low, high);
-    address_figure(7, 0x03FE, 0x2E, 16, 0, low, high);
-    address_figure(8, 0x0000, 0x20, 100, 0, low, high);
-    address_figure(9, 0x0001, 0x00, 0, 16, low, high);
-    address_figure(9, 0x0001, 0x00, 1, 16, low, high);
+    address_figure(5, 0x0011, 0x20, 1, 2, 15, low, high);
+    address_figure(5, 0x0011, 0x20, 1, 3, 0, low, high);
+    address_figure(5, 0x0011, 0x20, 1, 191, 15, low, high);
+    address_figure(6, 0x0000, 0x00, 1, 12, 0, low, high);
+    address_figure(6, 0x0000, 0x00, 1, 191, 31, low, high);
+    address_figure(7, 0x03FE, 0x2E, 1, 15, 31, low, high);
+    address_figure(7, 0x03FE, 0x2E, 1, 16, 0, low, high);
+    address_figure(8, 0x0000, 0x20, 1, 100, 0, low, high);
+    address_figure(9, 0x0001, 0x00, 1, 0, 16, low, high);
+    address_figure(9, 0x0001, 0x00, 1, 1, 16, low, high);
+}
+
+// Figure P8 and its neighbours under rule 2, each other Y, a window that comes round, B4 kept, and B4 not set.
+fn rule_2(low: &[u8], high: &[u8]) {
+    address_figure(8, 0x0000, 0x20, 2, 100, 0, low, high);
+    address_figure(0, 0x0000, 0x20, 2, 11, 15, low, high);
+    address_figure(0, 0x0000, 0x20, 2, 12, 0, low, high);
+    address_figure(0, 0x0002, 0x22, 2, 191, 15, low, high);
+    address_figure(0, 0x0004, 0x26, 2, 191, 15, low, high);
+    address_figure(0, 0x0006, 0x2A, 2, 191, 0, low, high);
+    address_figure(0, 0x03FE, 0x20, 2, 16, 0, low, high);
+    address_figure(0, 0x0001, 0x20, 2, 191, 15, low, high);
+    address_figure(0, 0x0000, 0x00, 2, 191, 31, low, high);
+    address_figure(0, 0x0001, 0x00, 2, 1, 16, low, high);
 }
 
 // == Refusals and their order, and lengths, with the strip held against what it was before.
@@ -117,11 +134,12 @@ fn room(s: &mut [u8], n: usize) -> &mut [u8] {
 }
 
 // Fetches to a marked strip, of buffers as long as told.
-fn fetch(word: usize, pins: usize, image: usize, strip: usize, bytes: &[u8]) {
+fn fetch(word: usize, pins: usize, rule: usize, image: usize, strip: usize, bytes: &[u8]) {
     let mut buffer = [0u8; 8192];
     mark(&mut buffer);
-    let settings = settings_of(word, pins);
+    let settings = settings_of(word, pins, rule);
     let a = strip::fetch(settings, cut(bytes, image), room(&mut buffer, strip));
+    rule_name(rule);
     form(
         b"fetch word $ pins % image # strip #",
         &[word, pins, image, strip],
@@ -132,91 +150,99 @@ fn fetch(word: usize, pins: usize, image: usize, strip: usize, bytes: &[u8]) {
 
 // The refusals of fetching in their order, each with all later conditions holding too, or alone.
 fn refusals(image: &[u8]) {
-    fetch(0x1000, 0x40, 65535, 0, image);
-    fetch(0x5000, 0x40, 65536, 8192, image);
-    fetch(0x5000, 0x64, 65536, 8192, image);
-    fetch(0x1000, 0x10, 65535, 0, image);
-    fetch(0x5000, 0x1F, 65536, 8192, image);
-    fetch(0x1000, 0x20, 65535, 0, image);
-    fetch(0x5000, 0x00, 65536, 8192, image);
-    fetch(0x0000, 0x20, 65535, 0, image);
-    fetch(0x0000, 0x00, 0, 8192, image);
-    fetch(0x4000, 0x20, 65536, 0, image);
+    fetch(0x1000, 0x40, 1, 65535, 0, image);
+    fetch(0x5000, 0x40, 1, 65536, 8192, image);
+    fetch(0x5000, 0x64, 1, 65536, 8192, image);
+    fetch(0x1000, 0x10, 1, 65535, 0, image);
+    fetch(0x5000, 0x1F, 1, 65536, 8192, image);
+    fetch(0x1000, 0x20, 1, 65535, 0, image);
+    fetch(0x5000, 0x00, 1, 65536, 8192, image);
+    fetch(0x0000, 0x20, 1, 65535, 0, image);
+    fetch(0x0000, 0x00, 1, 0, 8192, image);
+    fetch(0x4000, 0x20, 1, 65536, 0, image);
 }
 
 // Image lengths.
 fn images(image: &[u8]) {
-    fetch(0x0000, 0x20, 4095, 8192, image);
-    fetch(0x0000, 0x20, 4097, 8192, image);
-    fetch(0x0000, 0x20, 12288, 8192, image);
-    fetch(0x0000, 0x20, 65535, 8192, image);
-    fetch(0x0000, 0x20, 4096, 8192, image);
-    fetch(0x0000, 0x20, 8192, 8192, image);
-    fetch(0x2000, 0x20, 16384, 8192, image);
-    fetch(0x2000, 0x20, 32768, 8192, image);
+    fetch(0x0000, 0x20, 1, 4095, 8192, image);
+    fetch(0x0000, 0x20, 1, 4097, 8192, image);
+    fetch(0x0000, 0x20, 1, 12288, 8192, image);
+    fetch(0x0000, 0x20, 1, 65535, 8192, image);
+    fetch(0x0000, 0x20, 1, 4096, 8192, image);
+    fetch(0x0000, 0x20, 1, 8192, 8192, image);
+    fetch(0x2000, 0x20, 1, 16384, 8192, image);
+    fetch(0x2000, 0x20, 1, 32768, 8192, image);
 }
 
 // Strip lengths, one byte short and just right, of external text too, which fetching gives with bytes of 128 or more; INT/EXT with A/G = 1; M, P, R0 and TY.
 fn strips(image: &[u8]) {
-    fetch(0x4000, 0x20, 65536, 3071, image);
-    fetch(0x4000, 0x20, 65536, 3072, image);
-    fetch(0x4000, 0x00, 65536, 6143, image);
-    fetch(0x4000, 0x00, 65536, 6144, image);
-    fetch(0x4000, 0x10, 65536, 6143, image);
-    fetch(0x4000, 0x10, 65536, 6144, image);
-    fetch(0x4000, 0x2E, 65536, 6143, image);
-    fetch(0x4000, 0x30, 65536, 8192, image);
-    fetch(0xEC00, 0x2E, 65536, 8192, image);
+    fetch(0x4000, 0x20, 1, 65536, 3071, image);
+    fetch(0x4000, 0x20, 1, 65536, 3072, image);
+    fetch(0x4000, 0x00, 1, 65536, 6143, image);
+    fetch(0x4000, 0x00, 1, 65536, 6144, image);
+    fetch(0x4000, 0x10, 1, 65536, 6143, image);
+    fetch(0x4000, 0x10, 1, 65536, 6144, image);
+    fetch(0x4000, 0x2E, 1, 65536, 6143, image);
+    fetch(0x4000, 0x30, 1, 65536, 8192, image);
+    fetch(0xEC00, 0x2E, 1, 65536, 8192, image);
+}
+
+// Under rule 2: a refusal, and a strip one byte short and just right.
+fn strips_2(image: &[u8]) {
+    fetch(0x5000, 0x20, 2, 65536, 8192, image);
+    fetch(0x4000, 0x20, 2, 65536, 3071, image);
+    fetch(0x4000, 0x20, 2, 65536, 3072, image);
 }
 
 // == Whole strips by their sums.
 
 // Fetches the strip of an image as long as told, and prints its sum.
-fn strip_sum(word: usize, pins: usize, image: usize, bytes: &[u8]) {
+fn strip_sum(word: usize, pins: usize, rule: usize, image: usize, bytes: &[u8]) {
     let mut strip = [0u8; 6144];
-    let a = strip::fetch(settings_of(word, pins), cut(bytes, image), &mut strip);
+    let a = strip::fetch(settings_of(word, pins, rule), cut(bytes, image), &mut strip);
+    rule_name(rule);
     form(b"strip word $ pins % image #", &[word, pins, image]);
     answered(a);
     one(b", sum #\n", sum(cut(&strip, answer::value(a))));
 }
 
 // Every SAM mode from a word on.
-fn modes(word: usize, pins: usize, image: usize, bytes: &[u8])
+fn modes(word: usize, pins: usize, rule: usize, image: usize, bytes: &[u8])
     requires { ⌜ word < 65536 ⌝ }
 {
-    strip_sum(word, pins, image, bytes);
-    strip_sum(word + 1, pins, image, bytes);
-    strip_sum(word + 2, pins, image, bytes);
-    strip_sum(word + 3, pins, image, bytes);
-    strip_sum(word + 4, pins, image, bytes);
-    strip_sum(word + 5, pins, image, bytes);
-    strip_sum(word + 6, pins, image, bytes);
-    strip_sum(word + 7, pins, image, bytes);
+    strip_sum(word, pins, rule, image, bytes);
+    strip_sum(word + 1, pins, rule, image, bytes);
+    strip_sum(word + 2, pins, rule, image, bytes);
+    strip_sum(word + 3, pins, rule, image, bytes);
+    strip_sum(word + 4, pins, rule, image, bytes);
+    strip_sum(word + 5, pins, rule, image, bytes);
+    strip_sum(word + 6, pins, rule, image, bytes);
+    strip_sum(word + 7, pins, rule, image, bytes);
 }
 
 // Text, internal and external, then each graphics mode.
-fn sums(bytes: &[u8]) {
-    modes(0x4000, 0x00, 65536, bytes);
-    modes(0x4000, 0x10, 65536, bytes);
-    modes(0x4000, 0x20, 65536, bytes);
-    modes(0x4000, 0x22, 65536, bytes);
-    modes(0x4000, 0x24, 65536, bytes);
-    modes(0x4000, 0x26, 65536, bytes);
-    modes(0x4000, 0x28, 65536, bytes);
-    modes(0x4000, 0x2A, 65536, bytes);
-    modes(0x4000, 0x2C, 65536, bytes);
-    modes(0x4000, 0x2E, 65536, bytes);
+fn sums(rule: usize, bytes: &[u8]) {
+    modes(0x4000, 0x00, rule, 65536, bytes);
+    modes(0x4000, 0x10, rule, 65536, bytes);
+    modes(0x4000, 0x20, rule, 65536, bytes);
+    modes(0x4000, 0x22, rule, 65536, bytes);
+    modes(0x4000, 0x24, rule, 65536, bytes);
+    modes(0x4000, 0x26, rule, 65536, bytes);
+    modes(0x4000, 0x28, rule, 65536, bytes);
+    modes(0x4000, 0x2A, rule, 65536, bytes);
+    modes(0x4000, 0x2C, rule, 65536, bytes);
+    modes(0x4000, 0x2E, rule, 65536, bytes);
 }
 
 // Starts 512 bytes before FFFF is passed, and before the end of an image of each other length.
-fn ends(bytes: &[u8]) {
-    modes(0x43F8, 0x20, 65536, bytes);
-    modes(0x43F8, 0x2E, 65536, bytes);
-    modes(0x03F8, 0x2E, 4096, bytes);
-    modes(0x0038, 0x2E, 4096, bytes);
-    modes(0x0078, 0x20, 8192, bytes);
-    modes(0x20F8, 0x2E, 16384, bytes);
-    modes(0x21F8, 0x00, 32768, bytes);
+fn ends(rule: usize, bytes: &[u8]) {
+    modes(0x43F8, 0x20, rule, 65536, bytes);
+    modes(0x43F8, 0x2E, rule, 65536, bytes);
+    modes(0x03F8, 0x2E, rule, 4096, bytes);
+    modes(0x0038, 0x2E, rule, 4096, bytes);
+    modes(0x0078, 0x20, rule, 8192, bytes);
+    modes(0x20F8, 0x2E, rule, 16384, bytes);
+    modes(0x21F8, 0x00, rule, 32768, bytes);
 }
 
 // Two images that tell the low and the high bytes of their addresses, and one in which no two rows or columns of a chip are alike.
@@ -231,6 +257,10 @@ fn main() {
     refusals(&low);
     images(&low);
     strips(&low);
-    sums(&varied);
-    ends(&varied);
+    sums(1, &varied);
+    ends(1, &varied);
+    rule_2(&low, &high);
+    strips_2(&low);
+    sums(2, &varied);
+    ends(2, &varied);
 }

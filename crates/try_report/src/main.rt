@@ -42,11 +42,19 @@ fn statuses() {
     report(b"deed=K\npins=2F\nwrites=0\n");
 }
 
+// The rule, given: as it is without it, rule 2 with a note under the same key, and one that is refused.
+fn rules() {
+    report(b"deed=K\npins=20\nrule=1\nwrites=0\n");
+    report(b"deed=K\npins=20\nrule=2\nwrites=1\nat=FFC9\nrule=1\n");
+    report(b"deed=K\npins=20\nrule=2\nwrites=1\nat=FFD9\na=b\n");
+}
+
 // A sheet broken in each kind of line.
 fn broken() {
     report(b"");
     report(b"deed=k\n");
     report(b"deed=K\npins=2a\n");
+    report(b"deed=K\npins=20\nrule=3\n");
     report(b"deed=K\npins=20\nwrites=65\n");
     report(b"deed=K\npins=20\nwrites=1\nat=0\n");
     report(b"deed=K\npins=20\nwrites=0\nA=\n");
@@ -82,6 +90,7 @@ fn after() {
         b"deed=K\npins=10\nwrites=0\na=b\n",
         Answer::At(Spot::NotValid, 5791),
     );
+    report_after(b"deed=K\npins=20\nrule=2\nwrites=0\na=b\n", Answer::Done(0));
     report_after(
         b"deed=K\npins=40\nwrites=0\na=b\n",
         Answer::Unfit(Unfit::ImageLength),
@@ -92,6 +101,7 @@ fn after() {
 fn main() {
     example();
     statuses();
+    rules();
     broken();
     after();
 }

@@ -1,4 +1,5 @@
 // Tries sheets: each corner of document 01's sheet, refused with its place or accepted with its fields. Prints a line for each.
+use settings::Rule;
 use trial::cut;
 use trial::form;
 use trial::least;
@@ -47,14 +48,28 @@ fn parts(sheet: &[u8], annotations: usize) {
     say(b"\n");
 }
 
+// A rule's number.
+fn rule_number(rule: Rule) -> usize {
+    match rule {
+        Rule::One => 1,
+        Rule::Two => 2,
+    }
+}
+
 // Reads a sheet, and prints what it yields.
 fn read(sheet: &[u8]) {
     let s = sheet::read(sheet);
     let answer = s.answer;
+    let rule = s.rule;
     number_and_place(answer);
     form(
-        b" pins % writes # annotations #",
-        &[s.pins as usize, s.write_count, s.annotations],
+        b" pins % rule # writes # annotations #",
+        &[
+            s.pins as usize,
+            rule_number(rule),
+            s.write_count,
+            s.annotations,
+        ],
     );
     parts(sheet, s.annotations);
 }
@@ -122,6 +137,22 @@ fn heads() {
     corner(b"deed=K\npins=200\n");
 }
 
+// The rule, given and broken.
+fn rules(head: &[u8]) {
+    joined(head, b"rule=1\nwrites=0\n");
+    joined(head, b"rule=2\nwrites=0\n");
+    joined(head, b"rule=2\nwrites=0\nrule=3\n");
+    joined(head, b"rule=2\nrule=2\nwrites=0\n");
+    joined(head, b"rule=0\nwrites=0\n");
+    joined(head, b"rule=3\n");
+    joined(head, b"rule=\n");
+    joined(head, b"rule=12\n");
+    joined(head, b"rules=1\n");
+    joined(head, b"rul");
+    joined(head, b"rule=2");
+    joined(head, b"rule=2\nwrites=65\n");
+}
+
 // The number of writes.
 fn counts(head: &[u8]) {
     joined(head, b"writes=65\n");
@@ -164,33 +195,26 @@ fn accepted(head: &[u8]) {
     corner(b"deed=----------------\npins=FF\nwrites=0\n");
 }
 
-// A value one byte too long and the longest, a line too many and the most, the longest sheet and a byte more.
+// A value one byte too long and the longest, a line too many and the most; the longest sheet and a byte more, without the rule and with it.
 fn longs() {
     long(b"deed=K\npins=20\nwrites=0\n", 0, 1, 121, 1, 0);
     long(b"deed=K\npins=20\nwrites=0\n", 0, 1, 120, 1, 0);
     long(b"deed=K\npins=20\nwrites=0\n", 0, 1, 0, 201, 0);
     long(b"deed=K\npins=20\nwrites=0\n", 0, 1, 0, 200, 0);
-    long(
-        b"deed=----------------\npins=FF\nwrites=64\n",
-        64,
-        16,
-        120,
-        200,
-        0,
-    );
-    long(
-        b"deed=----------------\npins=FF\nwrites=64\n",
-        64,
-        16,
-        120,
-        200,
-        1,
-    );
+    longest(b"deed=----------------\npins=FF\nwrites=64\n");
+    longest(b"deed=----------------\npins=FF\nrule=2\nwrites=64\n");
+}
+
+// The longest sheet that goes on from a head, and a byte more.
+fn longest(head: &[u8]) {
+    long(head, 64, 16, 120, 200, 0);
+    long(head, 64, 16, 120, 200, 1);
 }
 
 fn main() {
     heads();
     counts(b"deed=K\npins=20\n");
+    rules(b"deed=K\npins=20\n");
     writes(b"deed=K\npins=20\nwrites=1\n");
     refused(b"deed=K\npins=20\nwrites=0\n");
     accepted(b"deed=K\npins=20\nwrites=0\n");

@@ -1,4 +1,4 @@
-// Tries both at once: each refusal, buffers of all lengths, bytes that are not valid, and the ordinary pairs of modes by the sums of strip and frame.
+// Tries both at once: each refusal, buffers of all lengths, bytes that are not valid, and pairs of modes, under rule 2 too, by the sums of strip and frame.
 // Prints a line for each call.
 use answer::Answer;
 use trial::answered;
@@ -8,6 +8,7 @@ use trial::lay;
 use trial::least;
 use trial::mark;
 use trial::one;
+use trial::rule_name;
 use trial::settings_of;
 use trial::sum;
 use trial::unchanged_from;
@@ -52,7 +53,7 @@ fn show(
     mark(&mut fetched);
     mark(&mut buffer);
     let a = screen::show(
-        settings_of(word, pins),
+        settings_of(word, pins, 1),
         cut(bytes, image),
         cut(patterns, font),
         room(&mut fetched, strip),
@@ -120,37 +121,46 @@ fn not_valid(own: &[u8], rom: &[u8]) {
 // == The ordinary pairs of modes.
 
 // Prints the settings of both at once, the answer, and the sums of strip and frame.
-fn told_sums(word: usize, pins: usize, a: Answer, strip: &[u8], frame: &[u8]) {
+fn told_sums(word: usize, pins: usize, rule: usize, a: Answer, strip: &[u8], frame: &[u8]) {
+    rule_name(rule);
     form(b"show word $ pins %", &[word, pins]);
     answered(a);
     form(b", strip sum #, frame sum #\n", &[sum(strip), sum(frame)]);
 }
 
 // Both at once, with a strip as long as it has to be.
-fn pair(word: usize, pins: usize, strip: usize, image: &[u8], font: &[u8]) {
+fn pair(word: usize, pins: usize, rule: usize, strip: usize, image: &[u8], font: &[u8]) {
     let mut fetched = [0u8; 6144];
     let mut frame = [0u8; 49152];
     let a = screen::show(
-        settings_of(word, pins),
+        settings_of(word, pins, rule),
         image,
         font,
         room(&mut fetched, strip),
         &mut frame,
     );
-    told_sums(word, pins, a, cut(&fetched, strip), &frame);
+    told_sums(word, pins, rule, a, cut(&fetched, strip), &frame);
 }
 
 // Text, then each graphics mode, with the SAM mode that goes with it.
 fn pairs(image: &[u8], font: &[u8]) {
-    pair(0x4000, 0x00, 6144, image, font);
-    pair(0x4001, 0x20, 3072, image, font);
-    pair(0x4001, 0x22, 3072, image, font);
-    pair(0x4002, 0x24, 6144, image, font);
-    pair(0x4003, 0x26, 3072, image, font);
-    pair(0x4004, 0x28, 6144, image, font);
-    pair(0x4005, 0x2A, 3072, image, font);
-    pair(0x4006, 0x2C, 6144, image, font);
-    pair(0x4006, 0x2E, 6144, image, font);
+    pair(0x4000, 0x00, 1, 6144, image, font);
+    pair(0x4001, 0x20, 1, 3072, image, font);
+    pair(0x4001, 0x22, 1, 3072, image, font);
+    pair(0x4002, 0x24, 1, 6144, image, font);
+    pair(0x4003, 0x26, 1, 3072, image, font);
+    pair(0x4004, 0x28, 1, 6144, image, font);
+    pair(0x4005, 0x2A, 1, 3072, image, font);
+    pair(0x4006, 0x2C, 1, 6144, image, font);
+    pair(0x4006, 0x2E, 1, 6144, image, font);
+}
+
+// Under rule 2: two ordinary pairs, and two in which it counts at every line's end.
+fn pairs_2(image: &[u8], font: &[u8]) {
+    pair(0x4000, 0x00, 2, 6144, image, font);
+    pair(0x4001, 0x20, 2, 3072, image, font);
+    pair(0x4000, 0x20, 2, 3072, image, font);
+    pair(0x4006, 0x26, 2, 3072, image, font);
 }
 
 // All of them, by the internal font and the external character ROM.
@@ -160,7 +170,8 @@ fn shows(image: &[u8], letters: &[u8], font: &[u8]) {
     external_refusals(image, font);
     not_valid(own, font);
     pairs(image, own);
-    pair(0x4000, 0x10, 6144, letters, font);
+    pair(0x4000, 0x10, 1, 6144, letters, font);
+    pairs_2(image, own);
 }
 
 // An image and a font of varied bytes, and an image whose first 640 bytes are letters.

@@ -1,6 +1,6 @@
 -- `intake::settings_of` meets its contract.
 use Prim.Native.Nat.{ℕ, _^_, _<_}
-use mathlib.Core.Path.{_≡_, refl, sym, ap, ap₂, _∙_}
+use mathlib.Core.Path.{_≡_, refl, sym, ap, _∙_}
 use mathlib.Core.List.{List}
 use native.Mathlib.Omega.{arith}
 use denote.Ref.{now}
@@ -64,9 +64,11 @@ word-is c =
     let e = c .value .ensures ∙ ap (λ (t : Told). t .value) (played-all (play-of (c .before)) ∙ d .0) in
     (e, rw e (d .1))
 
-settings-are : (c : tie.After-value) → settingsOf (c .value .result) (fields (sheet-of c) .pins) ≡ settingsIn (bytes (sheet-of c))
+settings-are : (c : tie.After-value) → settingsOf (c .value .result) (fields (sheet-of c) .pins) (fields (sheet-of c) .rule) ≡ settingsIn (bytes (sheet-of c))
 unfolding settingsIn
-settings-are c = ap₂ settingsOf (word-is c .0) (sheet-of c .read .ensures .pins)
+settings-are c =
+    let r = sheet-of c .read .ensures in
+    λ i. settingsOf (word-is c .0 i) (r .pins i) (r .rule i)
 
 judged : (c : tie.After-settings-answer) → toldOf (c .settings-answer .result) ≡ intakeTold (bytes (sheet-of (c .before)))
 judged c =
@@ -117,8 +119,8 @@ returns-2 c =
 value-requires : tie.Need-value-requires
 value-requires c κs = search needs
 
-cast-t15 : tie.Need-cast-t15
-cast-t15 c = record { fits = word-is c .1 }
+cast-t16 : tie.Need-cast-t16
+cast-t16 c = record { fits = word-is c .1 }
 
 settings-answer-requires : tie.Need-settings-answer-requires
 settings-answer-requires c κs = search needs
@@ -155,7 +157,7 @@ settings-of-spec =
     refused-requires-2
     returns-2
     value-requires
-    cast-t15
+    cast-t16
     settings-answer-requires
     number-requires-3
     refused-requires-3

@@ -5,7 +5,7 @@ use lib.ListN.{length}
 use denote.Ref.{now}
 use Rattle.grammar.specs.Sheet.{Fields}
 use Rattle.grammar.specs.Read.{readSheet}
-use Rattle.grammar.specs.Given.{padded}
+use Rattle.grammar.specs.Given.{ruleGiven, padded}
 use Rattle.scan.proofs.Outlined.{whole-given, broken-given, count-given}
 use Rattle.sheet.proofs.read.Statement.{statement}
 use Rattle.sheet.proofs.read.Tie as tie
@@ -21,6 +21,7 @@ returns c =
     record {
       told = g .told-done;
       pins = g .pins;
+      rule = g .rule;
       writes = g .writes;
       count = g .count;
       annotations = count-given (readSheet s) (r .result) (r .ensures);
@@ -34,6 +35,7 @@ returns-2 c =
     record {
       told = g .told-broken;
       pins = ap (λ (f : Fields). f .pins) (g .no-fields);
+      rule = ap (λ (f : Fields). ruleGiven (f .rule)) (g .no-fields);
       writes = ap (λ (f : Fields). padded 64 (f .writes)) (g .no-fields);
       count = ap (λ (f : Fields). length (f .writes)) (g .no-fields);
       annotations = ap (λ (f : Fields). length (f .annotations)) (g .no-fields);

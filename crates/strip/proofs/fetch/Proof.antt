@@ -26,8 +26,8 @@ returns c =
     let b = start-of (c .before) in
     length-refused (b .args .settings) (now (b .args .image)) (now (b .args .strip)) (c .before .before .length-answer .ensures) (λ z. c .if1 .taken (c .before .number .ensures ∙ z))
 
-lines-requires : tie.Need-lines-requires
-lines-requires c κs =
+all-lines-requires : tie.Need-all-lines-requires
+all-lines-requires c κs =
     let b = start-of (c .before .before) in
     lengths-fit (b .args .settings) (length (now (b .args .image))) (length (now (b .args .strip))) (rw (c .before .before .before .length-answer .ensures) at (passed (c .before)))
 
@@ -38,9 +38,9 @@ returns-2 : tie.Need-returns-2
 returns-2 c =
     let e = c .before .before .before .before in
     let b = start-of (e .before) in
-    all-fetched (b .args .settings) (now (b .args .image)) (now (b .args .strip)) (e .before .before .length-answer .ensures) (passed e) (c .before .before .lines .ensures)
+    all-fetched (b .args .settings) (now (b .args .image)) (now (b .args .strip)) (e .before .before .length-answer .ensures) (passed e) (c .before .before .all-lines .ensures)
 
 pub fetch-spec : {M : Type 1} → statement M
 fetch-spec =
     tie.close
-    (tie.spec length-answer-requires number-requires returns lines-requires same-length returns-2)
+    (tie.spec length-answer-requires number-requires returns all-lines-requires same-length returns-2)

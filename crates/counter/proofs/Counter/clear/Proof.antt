@@ -1,37 +1,49 @@
 -- `counter::Counter::clear` meets its contract.
-use Prim.Native.Nat.{ℕ}
-use mathlib.Core.Path.{_≡_, ap, _∙_}
-use native.Mathlib.Omega.{arith}
-use lib.ListN.{getD}
-use Rattle.counter.specs.Counter.{keptFrom, kept, clear}
-use Rattle.counter.proofs.Tables.{kept-lt, cleared-le, shifted}
+use mathlib.Core.Path.{_≡_, sym, ap, ap₂, _∙_}
+use mathlib.Core.Bool.{Bool, _&&_}
+use lib.Dec.{eqb}
+use Rattle.settings.specs.declared.Settings.{Settings}
+use Rattle.counter.specs.declared.Counter.{Counter}
+use Rattle.counter.specs.Counter.{b4, fall, clearsSetB4, clearingCounts, clear}
 use borrow.Author.Needs.{needs}
 use Rattle.counter.proofs.Counter.clear.Statement.{statement}
 use Rattle.counter.proofs.Counter.clear.Tie as tie
 
--- the lowest bit kept, of the settings
-kept-is : (c : tie.After-kept-from) → c .kept-from .result ≡ kept (c .before .before .args .settings)
-kept-is c = c .kept-from .ensures ∙ ap (λ (v : ℕ). getD keptFrom v 0) (c .before .video-mode .ensures)
+-- the settings and the counter that the function is called with, and the one with its bits cleared
+abbrev cleared-of : tie.After-clearing-counts → tie.After-cleared
+cleared-of c = c .before .before .before
 
-video-mode-requires : tie.Need-video-mode-requires
-video-mode-requires c κs = search needs
+abbrev settings : tie.After-clearing-counts → Settings
+settings c = cleared-of c .before .args .settings
 
-kept-from-requires : tie.Need-kept-from-requires
-kept-from-requires c κs = search needs
+abbrev self : tie.After-clearing-counts → Counter
+self c = cleared-of c .before .args .self
 
-shr-t6 : tie.Need-shr-t6
-shr-t6 c = rw (kept-is c) (kept-lt (c .before .before .args .settings))
+-- the test is the definition's
+test-is : (c : tie.After-clearing-counts) {t : Bool}
+    → (c .clearing-counts .result && (eqb (b4 (self c)) 1 && eqb (b4 (cleared-of c .cleared .result)) 0)) ≡ t
+    → (clearingCounts (settings c .rule) && clearsSetB4 (settings c) (self c)) ≡ t
+test-is c h = sym (ap₂ (λ (t : Bool) (d : Counter). t && (eqb (b4 (self c)) 1 && eqb (b4 d) 0)) (c .clearing-counts .ensures) (cleared-of c .cleared .ensures)) ∙ h
 
-shl-t7 : tie.Need-shl-t7
-shl-t7 c = rw (kept-is c) (kept-lt (c .before .before .args .settings))
+cleared-requires : tie.Need-cleared-requires
+cleared-requires c κs = search needs
 
-add-t9 : tie.Need-add-t9
-add-t9 c = rw (kept-is c, shifted (c .before .before .args .settings) (c .before .before .args .self .address) (omega arith)) (omega (arith, cleared-le (c .before .before .args .settings) (c .before .before .args .self .address)))
+clearing-counts-requires : tie.Need-clearing-counts-requires
+clearing-counts-requires c κs = search needs
+
+fall-requires : tie.Need-fall-requires
+fall-requires c κs = search needs
 
 returns : tie.Need-returns
 unfolding clear
-returns c = rw (kept-is c, shifted (c .before .before .args .settings) (c .before .before .args .self .address) (omega arith))
+returns c =
+    let p = c .before .before in
+    simp (test-is p (c .before .if1 .taken)) (c .fall .ensures ∙ ap (fall (settings p)) (cleared-of p .cleared .ensures))
+
+returns-2 : tie.Need-returns-2
+unfolding clear
+returns-2 c = let p = c .before in simp (test-is p (c .if1 .left)) (cleared-of p .cleared .ensures)
 
 pub clear-spec : {M : Type 1} → statement M
 clear-spec =
-    tie.close (tie.spec video-mode-requires kept-from-requires shr-t6 shl-t7 add-t9 returns)
+    tie.close (tie.spec cleared-requires clearing-counts-requires fall-requires returns returns-2)

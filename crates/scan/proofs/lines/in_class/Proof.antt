@@ -40,6 +40,12 @@ within-requires-5 c κs = search needs
 enum-told-4 : tie.Need-enum-told-4
 enum-told-4 c = search needs
 
+enum-told-5 : tie.Need-enum-told-5
+enum-told-5 c = search needs
+
+within-requires-6 : tie.Need-within-requires-6
+within-requires-6 c κs = search needs
+
 returns : tie.Need-returns
 returns c = rw (c .before .within .ensures, c .within2 .ensures) (of-class (c .before .before .before .before .args .b) (c .before .before .enum-told .given .1))
 
@@ -51,6 +57,9 @@ returns-3 c = rw (c .within5 .ensures) (of-class (c .before .before .before .arg
 
 returns-4 : tie.Need-returns-4
 returns-4 c = sym (rw (le-leb (c .before .before .args .b) 255 (omega (arith, c .before .before .fits .b)))) ∙ of-class (c .before .before .args .b) (c .enum-told4 .given .1)
+
+returns-5 : tie.Need-returns-5
+returns-5 c = rw (c .within6 .ensures) (of-class (c .before .before .before .args .b) (c .before .enum-told5 .given .1))
 
 pub in-class-spec : {M : Type 1} → statement M
 in-class-spec =
@@ -65,7 +74,10 @@ in-class-spec =
     enum-told-3
     within-requires-5
     enum-told-4
+    enum-told-5
+    within-requires-6
     returns
     returns-2
     returns-3
-    returns-4)
+    returns-4
+    returns-5)
