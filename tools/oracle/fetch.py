@@ -1,4 +1,4 @@
-"""Which bytes are fetched: the counter with its two dividers, its addresses under either fetch rule, and the strip."""
+"""Which bytes are fetched: the counter with its two dividers, its addresses under either fetch rule, the banks of an image, and the strip."""
 
 from pins import bit as pin
 from pins import is_graphics, width
@@ -114,11 +114,55 @@ def addresses(word, pins, rule=1):
     return found
 
 
-def image_place(image, address):
-    """The place in the image: the address modulo the image's length."""
-    return address % len(image)
+# CR 7, by M1, M0: the lengths of an image with one bank and with two, and which bit is the bank. In the last two all bits are the place.
+MEMORIES = (
+    ((4096, 8192), 12),
+    ((16384, 32768), 14),
+    ((65536,), None),
+    ((65536,), None),
+)
+
+
+def memory(word):
+    """The row of that table that M1, M0 name."""
+    return MEMORIES[2 * bit(word, "M1") + bit(word, "M0")]
+
+
+def image_lengths(word):
+    """The lengths of an image that are suited to M1, M0."""
+    return memory(word)[0]
+
+
+def bank(word, address):
+    """The bank of an address."""
+    number = memory(word)[1]
+    return 0 if number is None else address >> number & 1
+
+
+def in_bank(word, address):
+    """The place of an address within its bank: the bits below the bank's, or all."""
+    number = memory(word)[1]
+    return address if number is None else address & (1 << number) - 1
+
+
+def image_place(word, address):
+    """The place in the image, where two banks lie one after the other."""
+    return bank(word, address) * image_lengths(word)[0] + in_bank(word, address)
+
+
+def is_fitted(word, image, number):
+    """Whether an image, whose length is suited, has a bank."""
+    return number < len(image) // image_lengths(word)[0]
+
+
+def first_missing(word, pins, image, rule=1):
+    """The strip index of the first fetch from a bank not fitted, or None."""
+    for place, address in enumerate(addresses(word, pins, rule)):
+        if not is_fitted(word, image, bank(word, address)):
+            return place
+    return None
 
 
 def strip(word, pins, image, rule=1):
     """The bytes in fetched order, repeats included."""
-    return bytes(image[image_place(image, address)] for address in addresses(word, pins, rule))
+    return bytes(image[image_place(word, address)] for address in addresses(word, pins, rule))

@@ -1,4 +1,4 @@
-"""Figures to check by: document 01's own, figures of CR 1 counted by hand, the case of CR 2 with what it says of the other letters, figures of CR 5 counted by hand, the case of CR 6 with sheets and addresses counted by hand, and those of the standards that a picture file goes by, held against these modules."""
+"""Figures to check by: document 01's own, figures of CR 1 counted by hand, the case of CR 2 with what it says of the other letters, figures of CR 5 counted by hand, the case of CR 6 with sheets and addresses counted by hand, figures of CR 7 counted by hand, and those of the standards that a picture file goes by, held against these modules."""
 
 import zlib
 
@@ -12,7 +12,7 @@ import report
 import sheet
 import word
 
-TEXT, CG1, RG6 = 0x00, 0x20, 0x2E
+TEXT, EXTERNAL, CG1, CG2, RG2, CG3, RG3, RG6 = 0x00, 0x10, 0x20, 0x24, 0x26, 0x28, 0x2A, 0x2E
 
 
 def address(control, pin_byte, line, byte, rule=1):
@@ -240,6 +240,159 @@ def rule_sheets():
     )
 
 
+def fetch_from(control, pin_byte, image, rule=1, room=6144):
+    """What fetching tells of an image, and whether the strip was kept."""
+    strip = bytearray(b"?") * room
+    answer = numbers.fetch(control, pin_byte, image, strip, rule)
+    return answer, strip == bytearray(b"?") * room
+
+
+def show_from(control, pin_byte, image, font, room, frame_room):
+    """What both at once tell of an image, and whether strip and frame were kept."""
+    strip, frame = bytearray(b"?") * room, bytearray(b"?") * frame_room
+    answer = numbers.show(control, pin_byte, image, bytes(font), strip, frame)
+    return answer, strip == bytearray(b"?") * room, frame == bytearray(b"?") * frame_room
+
+
+def suited_lengths():
+    """CR 7: each M with each length, which is suited or 16, and with lengths that are none of the five: 5. The window is 16 bytes from 0000 on.
+
+    16 comes after 1, 4 and 5, and before 7.
+    """
+    for control, suited in ((0x0000, (4096, 8192)), (0x2000, (16384, 32768)), (0x4000, (65536,)), (0x6000, (65536,))):
+        for length in (4096, 8192, 16384, 32768, 65536):
+            said = ((0, 0, 3072), False) if length in suited else ((16, 0, 0), True)
+            yield "suited", (control, length, fetch_from(control, CG1, bytes(length))), (control, length, said)
+        for length in (0, 4095, 4097, 12288, 65535, 65537):
+            yield "none of the five", (control, length, fetch_from(control, CG1, bytes(length))), (control, length, ((5, 0, 0), True))
+    yield "1 before 16", fetch_from(0x0000, 64, bytes(65536)), ((1, 0, 0), True)
+    yield "4 before 16", fetch_from(0x1000, CG1, bytes(65536)), ((4, 0, 0), True)
+    yield "5 before 16", fetch_from(0x0000, CG1, bytes(65535), room=0), ((5, 0, 0), True)
+    yield "16 before 7", fetch_from(0x0000, CG1, bytes(65536), room=0), ((16, 0, 0), True)
+    yield "7 alone", fetch_from(0x4000, CG1, bytes(65536), room=3071), ((7, 0, 0), True)
+
+
+def image_places():
+    """CR 7: the place by B12 and B0-B11, by B14 and B0-B13, and by all bits; and of the byte after 512 from a start on, past a bank's end and past FFFF.
+
+    P, R0 and TY, which are set in the last five words, alter nothing.
+    """
+    for control, places in (
+        (0x0000, ((0x0000, 0), (0x0FFF, 4095), (0x1000, 4096), (0x1FFF, 8191), (0x2000, 0), (0x3000, 4096), (0xE234, 564), (0xFFFF, 8191))),
+        (0x2000, ((0x0000, 0), (0x2FFF, 12287), (0x3FFF, 16383), (0x4000, 16384), (0x8000, 0), (0xBFFF, 16383), (0xC001, 16385), (0xFFFF, 32767))),
+        (0x4000, ((0x0000, 0), (0x1000, 4096), (0x4000, 16384), (0x8000, 32768), (0xFFFF, 65535))),
+        (0x6000, ((0x0000, 0), (0x1000, 4096), (0x4000, 16384), (0x8000, 32768), (0xFFFF, 65535))),
+    ):
+        for place in places:
+            yield "image place", (control, (place[0], fetch.image_place(control, place[0]))), (control, place)
+    for control, length, last, after in (
+        (0x003E, 8192, 4095, 4096),
+        (0x007E, 8192, 8191, 0),
+        (0x03FE, 8192, 8191, 0),
+        (0x20FE, 32768, 16383, 16384),
+        (0x21FE, 32768, 32767, 0),
+        (0x23FE, 32768, 32767, 0),
+        (0x43FE, 65536, 65535, 0),
+        (0x63FE, 65536, 65535, 0),
+        (0x8C3E, 8192, 4095, 4096),
+        (0x8FFE, 8192, 8191, 0),
+        (0xACFE, 32768, 16383, 16384),
+        (0xAFFE, 32768, 32767, 0),
+        (0xCFFE, 65536, 65535, 0),
+    ):
+        image = with_byte(with_byte(bytes(length), last, 1), after, 2)
+        found = fetch.strip(control, RG6, image)
+        yield "512 bytes on", (control, list(found[510:514]), sum(found)), (control, [0, 1, 2, 0], 3)
+
+
+# CR 7: windows of boards with one bank, as word, pins, rule, and the strip index that 17 tells, or None where the window has only fitted places.
+# B12 is first set at 1000, and B14 at 4000. In the ordinary pairs a row of W places lasts 12 lines in text, and 3, 3, 2, 2, 1, 1 from SAM mode 1 to 6.
+ONE_BANK_4096 = (
+    (0x0000, TEXT, 1, None),  # 0000 to 01FF
+    (0x0038, TEXT, 1, None),  # 0E00 to 0FFF
+    (0x0040, TEXT, 1, 0),  # from 1000
+    (0x0078, TEXT, 1, 0),  # from 1E00
+    (0x0080, TEXT, 1, None),  # 2000 to 21FF
+    (0x03F8, TEXT, 1, 0),  # from FE00
+    (0x03FE, RG6, 1, 0),  # from FE00 past FFFF
+    (0x0031, CG1, 1, None),  # 0C00 to 0FFF
+    (0x0039, CG1, 1, 1536),  # 512 bytes are 32 rows of 16, each on 3 lines: line 96
+    (0x003A, CG2, 1, 1536),  # 16 rows of 32 on 3 lines: line 48
+    (0x003B, RG2, 1, 1024),  # 32 rows of 16 on 2 lines: line 64
+    (0x003C, CG3, 1, 1024),  # 16 rows of 32 on 2 lines: line 32
+    (0x003D, RG3, 1, 512),  # line 32
+    (0x003E, RG6, 1, 512),  # line 16
+    (0x0036, RG6, 1, 1024),  # 1,024 bytes on from 0C00
+    (0x0006, RG6, 1, 4096),  # 4,096 bytes on from 0000
+    (0x0106, RG6, 1, 4096),  # and from 4000
+    (0x0039, TEXT, 1, 1536),  # each 16 places are fetched 3 times: 32 times 48
+    (0x003B, TEXT, 2, 1024),  # each twice: 32 times 32
+    (0x003F, CG1, 2, 512),  # mode 7 clears nothing
+    (0x003E, RG6, 2, 512),  # no line ends with B4 set
+    (0x003A, CG1, 1, None),  # rule 1 stays on the first 16 places
+    (0x003E, CG1, 1, None),
+    (0x0038, CG1, 2, None),  # 16 rows of 32 from 0E00
+    (0x003A, CG1, 2, 768),  # 16 rows on 3 lines of 16 bytes
+    (0x003C, CG1, 2, 512),  # on 2
+    (0x003E, CG1, 2, 256),  # on 1
+)
+ONE_BANK_16384 = (
+    (0x2000, TEXT, 1, None),
+    (0x2040, TEXT, 1, None),  # 1000 to 11FF
+    (0x20F8, TEXT, 1, None),  # 3E00 to 3FFF
+    (0x2100, TEXT, 1, 0),  # from 4000
+    (0x2200, TEXT, 1, None),  # 8000 to 81FF
+    (0x22F8, TEXT, 1, None),  # BE00 to BFFF
+    (0x2300, TEXT, 1, 0),  # from C000
+    (0x23FE, RG6, 1, 0),  # from FE00 past FFFF
+    (0x20A6, RG6, 1, None),  # 2800 to 3FFF
+    (0x20AE, RG6, 1, 5632),  # 4000 lies 5,632 bytes on from 2A00: line 176
+    (0x22FE, RG6, 1, 512),  # C000 lies 512 bytes on from BE00
+    (0x20D4, CG3, 1, None),  # 3400 to 3FFF
+    (0x20DC, CG3, 1, 5120),  # 2,560 bytes on from 3600, 80 rows on 2 lines: line 160
+    (0x20F9, CG1, 1, 1536),
+    (0x20FE, CG1, 1, None),
+    (0x20FE, CG1, 2, 256),
+)
+
+
+def not_fitted():
+    """CR 7: the first fetch from a bank not fitted, which no byte of the image alters, nor P, R0 and TY; with two banks all is fetched. A refusal keeps the strip."""
+    for length, windows in ((4096, ONE_BANK_4096), (16384, ONE_BANK_16384)):
+        for control, pin_byte, rule, place in windows:
+            asked = (control, pin_byte, rule)
+            done = ((0, 0, 192 * pins.width(pin_byte)), False)
+            said = done if place is None else ((17, place, 0), True)
+            yield "one bank", (asked, fetch_from(control, pin_byte, bytes(length), rule)), (asked, said)
+            yield "other bytes and bits", (asked, fetch_from(control | 0x8C00, pin_byte, b"\xFF" * length, rule)), (asked, said)
+            yield "two banks", (asked, fetch_from(control, pin_byte, bytes(2 * length), rule)), (asked, done)
+    yield "7 before 17", fetch_from(0x0040, TEXT, bytes(4096), room=6143), ((7, 0, 0), True)
+
+
+def missing_shown():
+    """CR 7: both at once checks 16 after 5 and before 6, and 17 after 8 and before 15. Strip and frame are kept."""
+    kept, high = (True, True), b"\x80" * 4096
+    for name, asked, said in (
+        ("5 before 16", (0x0000, TEXT, bytes(65535), 0, 0, 0), 5),
+        ("16 before 6", (0x0000, TEXT, bytes(65536), 0, 0, 0), 16),
+        ("16 before 7", (0x0000, CG1, bytes(65536), 0, 0, 0), 16),
+        ("16 alone", (0x2000, CG1, bytes(8192), 0, 6144, 49152), 16),
+        ("6 before 17", (0x0040, EXTERNAL, high, 1152, 0, 0), 6),
+        ("7 before 17", (0x0040, EXTERNAL, high, 3072, 6143, 0), 7),
+        ("8 before 17", (0x0040, EXTERNAL, high, 3072, 6144, 49151), 8),
+        ("17 at 0", (0x0040, EXTERNAL, high, 3072, 6144, 49152), 17),
+    ):
+        yield name, show_from(*asked), ((said, 0, 0), *kept)
+    buffers = (3072, 6144, 49152)
+    yield "17 before 15", show_from(0x0006, EXTERNAL, high, *buffers), ((17, 4096, 0), *kept)
+    yield "17 without 15", show_from(0x0006, EXTERNAL, bytes(4096), *buffers), ((17, 4096, 0), *kept)
+    yield "15 with the bank fitted", show_from(0x0006, EXTERNAL, high + bytes(4096), *buffers), ((15, 0, 0), *kept)
+    yield "15 in the second bank", show_from(0x0006, EXTERNAL, bytes(4096) + high, *buffers), ((15, 4096, 0), *kept)
+    yield "15 in a window that is fitted", show_from(0x0038, EXTERNAL, high, *buffers), ((15, 0, 0), *kept)
+    yield "past the window", show_from(0x0000, EXTERNAL, bytes(4096) + high, *buffers), ((0, 0, 8), False, False)
+    yield "never by fetching alone", fetch_from(0x0006, EXTERNAL, bytes(4096) + high), ((0, 0, 6144), False)
+
+
 def checks():
     """The check values of CRC-32 and Adler-32, and the last chunk, which is the same in every PNG file."""
     yield "CRC-32 of 123456789", zlib.crc32(b"123456789"), 0xCBF43926
@@ -306,6 +459,7 @@ CHAPTERS = {
     "CR 2": (lower_case,),
     "CR 5": (external, not_valid),
     "CR 6": (rule_addresses, rule_sheets),
+    "CR 7": (suited_lengths, image_places, not_fitted, missing_shown),
     "the picture file": (checks, picture_files),
 }
 

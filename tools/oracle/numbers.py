@@ -6,6 +6,7 @@ from back import first_stray
 from back import read_back as strip_of
 from draw import FRAME_LENGTH, LINES, border, first_not_valid, font_length
 from draw import frame as frame_of
+from fetch import first_missing, image_lengths
 from fetch import strip as fetched
 from pins import is_graphics, width
 from word import bit
@@ -25,6 +26,8 @@ CONDITIONS = {
     10: lambda lent: lent.played_number == 10,
     11: lambda lent: lent.sheet_number == 11,
     15: lambda lent: first_not_valid(lent.pins, drawn_bytes(lent)) is not None,
+    16: lambda lent: len(lent.image) not in image_lengths(lent.word),
+    17: lambda lent: first_missing(lent.word, lent.pins, lent.image, lent.rule) is not None,
 }
 
 # The places that are not 0.
@@ -33,12 +36,14 @@ PLACES = {
     10: lambda lent: lent.played_place,
     11: lambda lent: lent.sheet_place,
     15: lambda lent: first_not_valid(lent.pins, drawn_bytes(lent)),
+    17: lambda lent: first_missing(lent.word, lent.pins, lent.image, lent.rule),
 }
 
 # CR 5: 2 is no longer given, and 15 is checked last by drawing and by both at once, never by fetching alone.
-FETCHING = (1, 4, 5, 7)
+# CR 7: 16 is checked after 5, and 17 after 8 and before 15.
+FETCHING = (1, 4, 5, 16, 7, 17)
 DRAWING = (1, 6, 7, 8, 15)
-BOTH = (1, 4, 5, 6, 7, 8, 15)
+BOTH = (1, 4, 5, 16, 6, 7, 8, 17, 15)
 READING_BACK = (1, 3, 7, 8, 9)
 REPORT = (11, 10, 1, 4)
 

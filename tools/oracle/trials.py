@@ -181,7 +181,7 @@ def fetch_line(control, pin_byte, image_length, strip_length, rule=1):
 
 
 def fetches_lines():
-    """The refusals of fetching in their order."""
+    """The refusals of fetching in their order, but for 16 and 17."""
     yield fetch_line(0x1000, 0x40, 65535, 0)
     yield fetch_line(0x5000, 0x40, 65536, 8192)
     yield fetch_line(0x5000, 0x64, 65536, 8192)
@@ -195,7 +195,7 @@ def fetches_lines():
 
 
 def lengths_lines():
-    """Image lengths, then strip lengths, of external text too with bytes of 128 or more, and bits that alter nothing."""
+    """Image lengths, those of the five with M1, M0 that they are suited to, then strip lengths, of external text too with bytes of 128 or more, and bits that alter nothing."""
     for length in (4095, 4097, 12288, 65535, 4096, 8192):
         yield fetch_line(0x0000, 0x20, length, 8192)
     for length in (16384, 32768):
@@ -211,36 +211,105 @@ def lengths_lines():
     yield fetch_line(0xEC00, 0x2E, 65536, 8192)
 
 
+def strip_sum_line(control, pin_byte, image_length, rule=1):
+    """The sum of the whole strip of an image as long as told."""
+    strip = bytearray(6144)
+    answer = numbers.fetch(control, pin_byte, vary(image_length), strip, rule)
+    asked = rule_name(rule) + "strip word %04X pins %02X image %d" % (control, pin_byte, image_length)
+    return asked + told(answer) + ", sum %d" % total(strip[:answer[2]])
+
+
 def strip_sum_lines(control, pin_byte, image_length, rule):
-    """Every SAM mode from a word on: the sum of the whole strip of an image as long as told."""
+    """Every SAM mode from a word on."""
     for mode in range(8):
-        strip = bytearray(6144)
-        answer = numbers.fetch(control + mode, pin_byte, vary(image_length), strip, rule)
-        asked = rule_name(rule) + "strip word %04X pins %02X image %d" % (control + mode, pin_byte, image_length)
-        yield asked + told(answer) + ", sum %d" % total(strip[:answer[2]])
+        yield strip_sum_line(control + mode, pin_byte, image_length, rule)
 
 
 def strips_lines(rule):
-    """Text, internal and external, and each graphics mode, then starts 512 bytes before FFFF is passed or before an image's end."""
+    """Text, internal and external, and each graphics mode, then starts 512 bytes before FFFF is passed, before a bank that is not fitted, before the end of two banks and before the second."""
     for pin_byte in (0x00, 0x10, 0x20, 0x22, 0x24, 0x26, 0x28, 0x2A, 0x2C, 0x2E):
         yield from strip_sum_lines(0x4000, pin_byte, 65536, rule)
     yield from strip_sum_lines(0x43F8, 0x20, 65536, rule)
     yield from strip_sum_lines(0x43F8, 0x2E, 65536, rule)
-    yield from strip_sum_lines(0x03F8, 0x2E, 4096, rule)
+    yield from strip_sum_lines(0x03F8, 0x2E, 8192, rule)
     yield from strip_sum_lines(0x0038, 0x2E, 4096, rule)
     yield from strip_sum_lines(0x0078, 0x20, 8192, rule)
-    yield from strip_sum_lines(0x20F8, 0x2E, 16384, rule)
+    yield from strip_sum_lines(0x20F8, 0x2E, 32768, rule)
     yield from strip_sum_lines(0x21F8, 0x00, 32768, rule)
 
 
+def suited_lines():
+    """Each M1, M0 with the lengths that are not suited to it, and 11 with the one that is; then what comes before 16, 16 before 7, and 7 before 17."""
+    for control, lengths in (
+        (0x0000, (16384, 32768, 65536)),
+        (0x2000, (4096, 8192, 65536)),
+        (0x4000, (4096, 8192, 16384, 32768)),
+        (0x6000, (4096, 8192, 16384, 32768, 65536)),
+    ):
+        for length in lengths:
+            yield fetch_line(control, 0x20, length, 8192)
+    yield fetch_line(0x0000, 0x40, 65536, 8192)
+    yield fetch_line(0x1000, 0x20, 65536, 8192)
+    yield fetch_line(0x2000, 0x20, 65535, 8192)
+    yield fetch_line(0x6000, 0x20, 12288, 8192)
+    yield fetch_line(0x0000, 0x20, 65536, 0)
+    yield fetch_line(0x2000, 0x00, 8192, 6143)
+    yield fetch_line(0x0040, 0x20, 4096, 3071)
+    yield fetch_line(0x2100, 0x00, 16384, 6143)
+
+
+def one_bank_lines():
+    """Windows that begin in a bank that is not fitted, that come to one on a later line, and that do so under rule 2 only; then whole strips of windows that have the fitted bank alone."""
+    yield fetch_line(0x0040, 0x20, 4096, 3072)
+    yield fetch_line(0x03FE, 0x2E, 4096, 8192)
+    yield fetch_line(0x2100, 0x00, 16384, 6144)
+    yield fetch_line(0x23FE, 0x2E, 16384, 8192)
+    yield fetch_line(0x0006, 0x2E, 4096, 8192)
+    yield fetch_line(0x0039, 0x20, 4096, 8192)
+    yield fetch_line(0x20AE, 0x2E, 16384, 8192)
+    yield fetch_line(0x22FD, 0x2A, 16384, 8192)
+    yield fetch_line(0x20AE, 0x2E, 16384, 8192, rule=2)
+    yield fetch_line(0x003A, 0x20, 4096, 8192)
+    yield fetch_line(0x003A, 0x20, 4096, 8192, rule=2)
+    yield fetch_line(0x20FE, 0x20, 16384, 8192)
+    yield fetch_line(0x20FE, 0x20, 16384, 8192, rule=2)
+    yield strip_sum_line(0x00A1, 0x20, 4096)
+    yield strip_sum_line(0x20A6, 0x2E, 16384)
+    yield strip_sum_line(0x220E, 0x2E, 16384)
+
+
+def two_banks_lines():
+    """The same windows with both banks fitted; past FFFF, M1, M0 = 11 as 10, and the sums and refusals again with P, R0 and TY set."""
+    yield strip_sum_line(0x0040, 0x20, 8192)
+    yield strip_sum_line(0x2100, 0x00, 32768)
+    yield strip_sum_line(0x0006, 0x2E, 8192)
+    yield strip_sum_line(0x0039, 0x20, 8192)
+    yield strip_sum_line(0x20AE, 0x2E, 32768)
+    yield strip_sum_line(0x22FD, 0x2A, 32768)
+    yield strip_sum_line(0x003A, 0x20, 8192, rule=2)
+    yield strip_sum_line(0x20FE, 0x20, 32768, rule=2)
+    yield strip_sum_line(0x23FE, 0x2E, 32768)
+    yield strip_sum_line(0x23F9, 0x20, 32768)
+    yield strip_sum_line(0x63FE, 0x2E, 65536)
+    yield strip_sum_line(0x63F9, 0x20, 65536)
+    yield strip_sum_line(0x8C06, 0x2E, 8192)
+    yield strip_sum_line(0xAFFE, 0x2E, 32768)
+    yield strip_sum_line(0xCFFE, 0x2E, 65536)
+    yield strip_sum_line(0x8C39, 0x20, 4096)
+    yield strip_sum_line(0x8C00, 0x20, 65536)
+
+
 def try_fetch():
-    """Addresses, refusals and lengths, and whole strips; then rule 2: addresses, and the same strips."""
+    """Addresses, refusals and lengths, and whole strips; then rule 2: addresses, and the same strips; then lengths by M1, M0, and boards with one bank and with two."""
     yield from addresses_lines()
     yield from fetches_lines()
     yield from lengths_lines()
     yield from strips_lines(1)
     yield from rule_2_lines()
     yield from strips_lines(2)
+    yield from suited_lines()
+    yield from one_bank_lines()
+    yield from two_banks_lines()
 
 
 # == try_valid
@@ -443,7 +512,7 @@ def show_line(control, pin_byte, *lengths, given=vary(65536)):
 
 
 def shows_lines():
-    """The refusals of both at once in their order, of external text last."""
+    """The refusals of both at once in their order, of external text after that, and 16 and 17 last: 16 before 6 and alone, 7 and 8 before 17, 17 before 15 and alone, and both banks fitted."""
     yield show_line(0x1000, 0x40, 65535, 0, 0, 0)
     yield show_line(0x5000, 0x40, 65536, 1152, 8192, 50000)
     yield show_line(0x5000, 0x64, 65536, 1152, 8192, 50000)
@@ -463,24 +532,34 @@ def shows_lines():
     yield show_line(0x4000, 0x10, 65536, 3072, 6144, 49151)
     yield show_line(0x4000, 0x10, 65536, 3072, 6144, 49152)
     yield show_line(0x4000, 0x1F, 65536, 3072, 8192, 50000)
+    yield show_line(0x0000, 0x00, 65536, 0, 0, 0)
+    yield show_line(0x6000, 0x20, 32768, 0, 8192, 50000)
+    yield show_line(0x0040, 0x10, 4096, 3072, 6143, 0)
+    yield show_line(0x0006, 0x10, 4096, 3072, 6144, 49151)
+    yield show_line(0x0006, 0x10, 4096, 3072, 6144, 49152)
+    yield show_line(0x0040, 0x00, 4096, 1152, 8192, 50000)
+    yield show_line(0x0006, 0x2E, 4096, 0, 8192, 50000)
+    yield show_line(0x0006, 0x2E, 8192, 0, 8192, 50000)
 
 
-def marred_screen_line(control, pin_byte, byte, first, second):
+def marred_screen_line(control, pin_byte, byte, first, second, length=4096):
     """Both at once of an image of letters with another byte at two places, by the font that the look asks for."""
-    image = bytearray(b"A") * 4096
+    image = bytearray(b"A") * length
     image[first] = image[second] = byte
     marred = "byte %02X at %d and %d, " % (byte, first, second)
-    return marred + show_line(control, pin_byte, 4096, draw.font_length(pin_byte), 6144, 49152, given=image)
+    return marred + show_line(control, pin_byte, length, draw.font_length(pin_byte), 6144, 49152, given=image)
 
 
 def marred_screens_lines():
-    """Bytes that external text does not show: in the window, where the first fetch is told, and beside it; with windows elsewhere and one that comes round."""
+    """Bytes that external text does not show: in the window, where the first fetch is told, and beside it; with windows elsewhere and one that comes round; and before a bank that is not fitted and beside such a window."""
     yield marred_screen_line(0x0000, 0x10, 0x80, 0, 511)
     yield marred_screen_line(0x0000, 0x10, 0xFF, 511, 31)
     yield marred_screen_line(0x0000, 0x10, 0x80, 511, 511)
     yield marred_screen_line(0x0000, 0x10, 0x80, 512, 4095)
     yield marred_screen_line(0x0008, 0x10, 0x80, 511, 1024)
     yield marred_screen_line(0x0008, 0x10, 0x80, 512, 511)
+    yield marred_screen_line(0x0004, 0x1F, 0x80, 2047, 2048)
+    yield marred_screen_line(0x007E, 0x10, 0x80, 0, 7679, length=8192)
     yield marred_screen_line(0x0006, 0x1F, 0x80, 2047, 2048)
     yield marred_screen_line(0x003E, 0x10, 0x80, 0, 3583)
     yield marred_screen_line(0x0000, 0x10, 0x7F, 0, 511)
@@ -500,7 +579,7 @@ PAIRS = ((0, 0x00), (1, 0x20), (1, 0x22), (2, 0x24), (3, 0x26), (4, 0x28), (5, 0
 
 
 def try_show():
-    """Both at once: refusals, bytes that are not valid, the ordinary pairs of modes, external text, and pairs under rule 2, ordinary ones and others.
+    """Both at once: refusals, bytes that are not valid, the ordinary pairs of modes, external text, and pairs under rule 2, ordinary ones and others; in the last it comes to a bank that is not fitted.
 
     Of the image that external text is shown from, the window's 512 bytes are letters: bytes beside it are not.
     """
@@ -511,6 +590,7 @@ def try_show():
     yield pair_line(0x4000, 0x10, tell(65536, 5))
     for control, pin_byte in ((0x4000, 0x00), (0x4001, 0x20), (0x4000, 0x20), (0x4006, 0x26)):
         yield pair_line(control, pin_byte, vary(65536), rule=2)
+    yield pair_line(0x003A, 0x20, vary(4096), rule=2)
 
 
 # == try_back
@@ -669,6 +749,8 @@ REPORTED_AFTER = (
     (b"deed=K\npins=20\nwrites=0\na=b\n", 9, 49152),
     (b"deed=K\npins=20\nwrites=0\na=b\n", 11, 7),
     (b"deed=K\npins=10\nwrites=0\na=b\n", 15, 5791),
+    (b"deed=K\npins=20\nwrites=0\na=b\n", 16, 0),
+    (b"deed=K\npins=20\nwrites=0\na=b\n", 17, 1536),
     (b"deed=K\npins=20\nrule=2\nwrites=0\na=b\n", 0, 0),
     (b"deed=K\npins=40\nwrites=0\na=b\n", 5, 0),
     (b"deed=k\n", 5, 0),

@@ -4,9 +4,9 @@ use native.Mathlib.Omega.{arith}
 use lib.Dec.{eqb}
 use Rattle.promises.specs.Choose.{choose}
 use Rattle.promises.specs.Told.{Told}
-use Rattle.answer.specs.declared.Unfit.the-variants.{PinsAbove, TextBack, FastRate, ImageLength, FontLength, ShortStrip, ShortFrame}
+use Rattle.answer.specs.declared.Unfit.the-variants.{PinsAbove, TextBack, FastRate, ImageLength, NotSuited, FontLength, ShortStrip, ShortFrame}
 use Rattle.answer.specs.declared.Later.the-variants.{OtherChip, ShortDestination, NoKey}
-use Rattle.answer.specs.declared.Spot.the-variants.{Stray, BrokenSheet, NoPicture, NotValid}
+use Rattle.answer.specs.declared.Spot.the-variants.{Stray, BrokenSheet, NoPicture, NotValid, NotFitted}
 use Rattle.answer.specs.declared.Answer.{Answer}
 use Rattle.answer.specs.declared.Answer.the-variants.{Done, Unfit as ByUnfit, Later as ByLater, At, Elsewhere}
 use Rattle.answer.specs.Told.{toldOf}
@@ -28,7 +28,9 @@ ofTold t =
     (choose (eqb (t .number) 12) (ByLater NoKey)
     (choose (eqb (t .number) 13) (ByLater OtherChip)
     (choose (eqb (t .number) 14) (ByLater ShortDestination)
-    (choose (eqb (t .number) 15) (At NotValid (t .place)) (At NoPicture (t .place))))))))))))))))
+    (choose (eqb (t .number) 15) (At NotValid (t .place))
+    (choose (eqb (t .number) 16) (ByUnfit NotSuited)
+    (choose (eqb (t .number) 17) (At NotFitted (t .place)) (At NoPicture (t .place))))))))))))))))))
 
 back : (a : Answer) → ofTold (toldOf a) ≡ a
 unfolding ofTold
@@ -37,6 +39,7 @@ back (ByUnfit PinsAbove) = refl
 back (ByUnfit TextBack) = refl
 back (ByUnfit FastRate) = refl
 back (ByUnfit ImageLength) = refl
+back (ByUnfit NotSuited) = refl
 back (ByUnfit FontLength) = refl
 back (ByUnfit ShortStrip) = refl
 back (ByUnfit ShortFrame) = refl
@@ -47,6 +50,7 @@ back (At Stray p) = refl
 back (At BrokenSheet p) = refl
 back (At NoPicture p) = refl
 back (At NotValid p) = refl
+back (At NotFitted p) = refl
 back (Elsewhere p w) = refl
 
 -- no answer is told by 2: that number is no longer given

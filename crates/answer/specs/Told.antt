@@ -2,11 +2,11 @@
 use Prim.Native.Nat.{ℕ}
 use Rattle.promises.specs.Told.{Told, told, done, refused}
 use Rattle.answer.specs.declared.Unfit.{Unfit}
-use Rattle.answer.specs.declared.Unfit.the-variants.{PinsAbove, TextBack, FastRate, ImageLength, FontLength, ShortStrip, ShortFrame}
+use Rattle.answer.specs.declared.Unfit.the-variants.{PinsAbove, TextBack, FastRate, ImageLength, NotSuited, FontLength, ShortStrip, ShortFrame}
 use Rattle.answer.specs.declared.Later.{Later}
 use Rattle.answer.specs.declared.Later.the-variants.{OtherChip, ShortDestination, NoKey}
 use Rattle.answer.specs.declared.Spot.{Spot}
-use Rattle.answer.specs.declared.Spot.the-variants.{Stray, BrokenSheet, NoPicture, NotValid}
+use Rattle.answer.specs.declared.Spot.the-variants.{Stray, BrokenSheet, NoPicture, NotValid, NotFitted}
 use Rattle.answer.specs.declared.Answer.{Answer}
 use Rattle.answer.specs.declared.Answer.the-variants.{Done, Unfit as ByUnfit, Later as ByLater, At, Elsewhere}
 
@@ -16,6 +16,7 @@ unfitNumber PinsAbove = 1
 unfitNumber TextBack = 3
 unfitNumber FastRate = 4
 unfitNumber ImageLength = 5
+unfitNumber NotSuited = 16
 unfitNumber FontLength = 6
 unfitNumber ShortStrip = 7
 unfitNumber ShortFrame = 8
@@ -32,6 +33,7 @@ spotNumber Stray = 9
 spotNumber BrokenSheet = 11
 spotNumber NoPicture = 28
 spotNumber NotValid = 15
+spotNumber NotFitted = 17
 
 abbrev pub toldOf : Answer → Told
 toldOf (Done v) = done v

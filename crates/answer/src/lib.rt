@@ -9,6 +9,7 @@ pub enum Unfit {
     TextBack,
     FastRate,
     ImageLength,
+    NotSuited,
     FontLength,
     ShortStrip,
     ShortFrame,
@@ -31,6 +32,8 @@ pub enum Spot {
     NoPicture,
     // The strip index of the first byte that external text does not show.
     NotValid,
+    // The strip index of the first fetch from a bank that is not fitted.
+    NotFitted,
 }
 
 // Done with its value, or refused: each case holds what document 01 has told of it.
@@ -52,6 +55,7 @@ fn unfit_number(u: Unfit) -> u8
         Unfit::TextBack => 3,
         Unfit::FastRate => 4,
         Unfit::ImageLength => 5,
+        Unfit::NotSuited => 16,
         Unfit::FontLength => 6,
         Unfit::ShortStrip => 7,
         Unfit::ShortFrame => 8,
@@ -76,6 +80,7 @@ fn spot_number(s: Spot) -> u8
         Spot::BrokenSheet => 11,
         Spot::NoPicture => 28,
         Spot::NotValid => 15,
+        Spot::NotFitted => 17,
     }
 }
 

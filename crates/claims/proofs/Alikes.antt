@@ -15,20 +15,22 @@ use Rattle.promises.specs.Choose.{choose}
 use Rattle.promises.specs.First.{firstWhere}
 use Rattle.promises.proofs.Choices.{by-test}
 use Rattle.promises.proofs.Fills.{written-by}
+use Rattle.promises.proofs.Firsts.{same-first}
 use Rattle.answer.specs.declared.Answer.{Answer}
 use Rattle.answer.proofs.Answers.{one-answer}
 use Rattle.settings.specs.declared.Look.{Look}
 use Rattle.settings.specs.declared.Rule.{Rule}
 use Rattle.settings.specs.declared.Rule.the-variants.{One, Two}
 use Rattle.settings.specs.declared.Settings.{Settings}
-use Rattle.settings.specs.Fields.{ruleNumber, under, videoMode, offset, fast, graphics, external, gm, gm2, gm1, gm0, css}
+use Rattle.settings.specs.Fields.{ruleNumber, under, videoMode, offset, fast, memory, graphics, external, gm, gm2, gm1, gm0, css}
 use Rattle.settings.specs.Modes.{width, dots, border, fontSize}
+use Rattle.settings.specs.Banks.{suited, imagePlace, missing}
 use Rattle.settings.specs.Refusals.{stripLength, frameLength}
 use Rattle.control.specs.Control.{withBit}
 use Rattle.counter.specs.declared.Counter.{Counter}
 use Rattle.counter.specs.Counter.{start, lineStart, bytesOn, addressOf}
 use Rattle.counter.proofs.Shifts.{bytes-by-v, clear-by-v}
-use Rattle.strip.specs.Fetch.{imagePlace, fetchPlace, fetchedByte, fetchTold, stripAfter}
+use Rattle.strip.specs.Fetch.{fetchAddress, fetchPlace, fetchedByte, firstMissing, fetchTold, stripAfter}
 use Rattle.pixel.specs.Graphics.{count, element, graphic}
 use Rattle.pixel.specs.Text.{pattern, inverted, letter, block, lit, ink}
 use Rattle.pixel.specs.Picture.{pixel, owner, dot, picture}
@@ -106,14 +108,15 @@ module _ {l m : Look} (e : SameLook l m) where
   unfolding stripBack
   stripBack-alike frame strip = rw (backTold-alike frame strip, width-alike, written-by (stripLength m) strip (λ i _. readByte-alike frame i))
 
--- what fetching feels of settings: which addresses it fetches, whether there is a display, and the look
+-- what fetching feels of settings: which addresses it fetches, the memory's size, whether there is a display, and the look
 pub record SameFetches (s t : Settings) : Type 0 where
   pub addresses : (n c : ℕ) → addressOf s n c ≡ addressOf t n c
+  pub size : memory s ≡ memory t
   pub rate : fast s ≡ fast t
   pub look : SameLook (s .look) (t .look)
 
--- so it is with the same V2-V0, F6-F0 and R1 of the control word, the same rule, and the same look
-module _ (s t : Settings) (video : videoMode s ≡ videoMode t) (from : offset s ≡ offset t) (rate : fast s ≡ fast t) (rule : s .rule ≡ t .rule) (look : SameLook (s .look) (t .look)) where
+-- so it is with the same V2-V0, F6-F0, R1 and M1-M0 of the control word, the same rule, and the same look
+module _ (s t : Settings) (video : videoMode s ≡ videoMode t) (from : offset s ≡ offset t) (rate : fast s ≡ fast t) (size : memory s ≡ memory t) (rule : s .rule ≡ t .rule) (look : SameLook (s .look) (t .look)) where
   lineStart-alike : (n : ℕ) → lineStart s n ≡ lineStart t n
   unfolding lineStart start
   lineStart-alike zero = rw from
@@ -124,26 +127,45 @@ module _ (s t : Settings) (video : videoMode s ≡ videoMode t) (from : offset s
   addressOf-alike n c = ap (λ (d : Counter). d .address) (bytes-by-v s t video c (lineStart s n) ∙ ap (bytesOn t c) (lineStart-alike n))
 
   pub by-fields : SameFetches s t
-  by-fields = record { addresses = addressOf-alike; rate = rate; look = look }
+  by-fields = record { addresses = addressOf-alike; size = size; rate = rate; look = look }
 
 -- and under either rule where the addresses are the same
 pub by-rules : (s : Settings) (q r : Rule) → ((n c : ℕ) → addressOf (under q s) n c ≡ addressOf (under r s) n c) → SameFetches (under q s) (under r s)
-by-rules s q r h = record { addresses = h; rate = refl; look = record { above = refl; outside = refl; mode = refl; number = refl; colours = refl } }
+by-rules s q r h = record { addresses = h; size = refl; rate = refl; look = record { above = refl; outside = refl; mode = refl; number = refl; colours = refl } }
 
 module _ {s t : Settings} (e : SameFetches s t) where
   -- fetching
-  fetchPlace-alike : (size k : ℕ) → fetchPlace s size k ≡ fetchPlace t size k
-  unfolding fetchPlace imagePlace
-  fetchPlace-alike size k = rw (width-alike (e .look), e .addresses (k / width (t .look)) (k % width (t .look)))
+  fetchAddress-alike : (k : ℕ) → fetchAddress s k ≡ fetchAddress t k
+  unfolding fetchAddress
+  fetchAddress-alike k = rw (width-alike (e .look), e .addresses (k / width (t .look)) (k % width (t .look)))
+
+  fetchPlace-alike : (k : ℕ) → fetchPlace s k ≡ fetchPlace t k
+  unfolding imagePlace
+  fetchPlace-alike k = rw (fetchAddress-alike k, e .size)
+
+  -- 16 and 17
+  suited-alike : (n : ℕ) → suited s n ≡ suited t n
+  unfolding suited
+  suited-alike n = rw (e .size)
+
+  missing-alike : (n k : ℕ) → missing s n (fetchAddress s k) ≡ missing t n (fetchAddress t k)
+  unfolding missing
+  missing-alike n k = rw (fetchAddress-alike k, e .size)
+
+  firstMissing-alike : (n : ℕ) → firstMissing s n ≡ firstMissing t n
+  unfolding firstMissing
+  firstMissing-alike n =
+      same-first (λ (k : ℕ). missing s n (fetchAddress s k)) (λ (k : ℕ). missing t n (fetchAddress t k)) (stripLength (s .look)) (λ k _. missing-alike n k)
+      ∙ ap (λ (w : ℕ). firstWhere (λ (k : ℕ). missing t n (fetchAddress t k)) (192 * w)) (width-alike (e .look))
 
   fetchTold-alike : (image strip : List ℕ) → fetchTold s image strip ≡ fetchTold t image strip
   unfolding fetchTold
-  fetchTold-alike image strip = rw (width-alike (e .look), e .look .above, e .rate)
+  fetchTold-alike image strip = rw (suited-alike (length image), firstMissing-alike (length image), width-alike (e .look), e .look .above, e .rate)
 
   stripAfter-alike : (image strip : List ℕ) → stripAfter s image strip ≡ stripAfter t image strip
   unfolding stripAfter
   stripAfter-alike image strip =
-      rw (fetchTold-alike image strip, width-alike (e .look), written-by (stripLength (t .look)) strip (λ k _. ap (λ (p : ℕ). getD image p 0) (fetchPlace-alike (length image) k)))
+      rw (fetchTold-alike image strip, width-alike (e .look), written-by (stripLength (t .look)) strip (λ k _. ap (λ (p : ℕ). getD image p 0) (fetchPlace-alike k)))
 
   -- both at once
   module _ (image font strip frame : List ℕ) where
@@ -152,8 +174,8 @@ module _ {s t : Settings} (e : SameFetches s t) where
     showTold-alike =
         let bytes : firstNotValid (s .look) (fetchedByte s image) ≡ firstNotValid (t .look) (fetchedByte t image) =
         firstNotValid-alike (e .look) (fetchedByte s image)
-        ∙ same-not-valid (t .look) (fetchedByte s image) (fetchedByte t image) (λ k _. ap (λ (p : ℕ). getD image p 0) (fetchPlace-alike (length image) k)) in
-        rw (bytes, border-alike (e .look), width-alike (e .look), e .look .above, e .look .outside, e .look .mode, e .rate)
+        ∙ same-not-valid (t .look) (fetchedByte s image) (fetchedByte t image) (λ k _. ap (λ (p : ℕ). getD image p 0) (fetchPlace-alike k)) in
+        rw (bytes, suited-alike (length image), firstMissing-alike (length image), border-alike (e .look), width-alike (e .look), e .look .above, e .look .outside, e .look .mode, e .rate)
 
     stripShown-alike : stripShown s image font strip frame ≡ stripShown t image font strip frame
     unfolding stripShown

@@ -1,8 +1,8 @@
 -- RG6 with SAM mode 6 from address 0: line m, byte c has the address 32 × m + c, by one computed walk over the frame.
-use Prim.Native.Nat.{ℕ, zero, suc, _+_, _*_, _<_}
+use Prim.Native.Nat.{ℕ, zero, suc, _+_, _*_, _/_, _%_, _<_}
 use mathlib.Core.Path.{_≡_, refl, sym, ap, _∙_}
 use mathlib.Core.Bool.{Bool, true, _&&_}
-use native.Mathlib.Nat.{mod-eq-of-lt, le-of-suc-le-suc}
+use native.Mathlib.Nat.{le-of-suc-le-suc}
 use native.Mathlib.Omega.{arith}
 use lib.Dec.{T, eqb, eqb→eq}
 use Rattle.promises.proofs.Orders.{both}
@@ -12,7 +12,8 @@ use Rattle.settings.specs.Fields.{settingsOf}
 use Rattle.settings.specs.Modes.{width}
 use Rattle.counter.specs.declared.Counter.{Counter}
 use Rattle.counter.specs.Counter.{fall, carry, advance, clear, bytesOn, start, lineStart, addressOf}
-use Rattle.strip.specs.Fetch.{imagePlace, placeOf}
+use Rattle.settings.specs.Banks.{imagePlace}
+use Rattle.strip.specs.Fetch.{placeOf}
 
 abbrev pub rg6 : Settings
 rg6 = settingsOf 0x4006 0x2E One
@@ -70,8 +71,8 @@ walked : T (linesUp 192 (start rg6) 0)
 unfolding linesUp bytesUp advance carry fall clear bytesOn start
 walked = tt
 
-pub goes-up : (m c : ℕ) → m < 192 → c < 32 → placeOf rg6 65536 m c ≡ 32 * m + c
+pub goes-up : (m c : ℕ) → m < 192 → c < 32 → placeOf rg6 m c ≡ 32 * m + c
 unfolding imagePlace addressOf
 goes-up m c h l =
     let e : addressOf rg6 m c ≡ 32 * m + c = ap (λ (x : Counter). bytesOn rg6 c x .address) (start-lines m) ∙ lines-up 192 (start rg6) 0 walked m c h l ∙ (let q : 0 + 32 * m + c ≡ 32 * m + c = omega arith in q) in
-    mod-eq-of-lt (omega arith) ∙ e
+    ap (λ (a : ℕ). a / 65536 % 2 * 65536 + a % 65536) e ∙ omega arith

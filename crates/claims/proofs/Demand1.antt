@@ -94,12 +94,12 @@ unfolding playTold
 play-demand κs word writes z p = ordered (playOrder word (now writes)) (played word (now writes)) tt p
 
 pub fetch-demand : (κs : Lfts 2) (s : Settings) (image strip : Lent) (z : Answer) (out : List ℕ) → Fetches κs s image strip z out
-    → Ordered (toldOf z) (fetchOrder s (now image) (now strip)) (stripLength (s .look)) × Guarded (toldOf z) (stripLength (s .look)) (now strip) out
+    → Ordered (toldOf z) (fetchOrder s (length (now image)) (length (now strip))) (stripLength (s .look)) × Guarded (toldOf z) (stripLength (s .look)) (now strip) out
 unfolding fetchTold
 fetch-demand κs s image strip z out p = (
-  ordered (fetchOrder s (now image) (now strip)) (stripLength (s .look)) tt (p .0),
+  ordered (fetchOrder s (length (now image)) (length (now strip))) (stripLength (s .look)) tt (p .0),
   guarded (fetchedByte s (now image)) (stripLength (s .look)) (now strip)
-      (λ e. let d = rw (p .0) at e in (fetch-accepted s (now image) (now strip) d .1, p .1 ∙ strip-done s (now image) (now strip) d))
+      (λ e. let d = rw (p .0) at e in (fetch-accepted s (now image) (now strip) d .strip-long, p .1 ∙ strip-done s (now image) (now strip) d))
       (λ no. p .1 ∙ strip-refused s (now image) (now strip) (λ e. no (rw (p .0) e))),
 )
 
@@ -124,7 +124,7 @@ show-demand κs s image font strip frame z bytes pixels p = (
   guarded (fetchedByte s (now image)) (stripLength (s .look)) (now strip)
       (λ e. let d = rw (p .0) at e in
       let f = fetched s (now image) (now font) (now strip) (now frame) d in
-      (fetch-accepted s (now image) (now strip) f .1, p .1 .0 ∙ shown-done s (now image) (now font) (now strip) (now frame) d .0 ∙ strip-done s (now image) (now strip) f))
+      (fetch-accepted s (now image) (now strip) f .strip-long, p .1 .0 ∙ shown-done s (now image) (now font) (now strip) (now frame) d .0 ∙ strip-done s (now image) (now strip) f))
       (λ no. p .1 .0 ∙ shown-refused s (now image) (now font) (now strip) (now frame) (λ e. no (rw (p .0) e)) .0),
   guarded (picture (s .look) (now font) (stripAfter s (now image) (now strip))) frameLength (now frame)
       (λ e. let d = rw (p .0) at e in

@@ -29,7 +29,7 @@ use Rattle.settings.specs.Modes.{width, border}
 use Rattle.settings.specs.Refusals.{stripLength, frameLength}
 use Rattle.control.specs.Control.{played, wordAfter, playOrder, playTold}
 use Rattle.control.proofs.Plays.{played-more}
-use Rattle.strip.specs.Fetch.{placeOf, fetchPlace, fetchedByte, fetchOrder, fetchTold, stripAfter}
+use Rattle.strip.specs.Fetch.{placeOf, fetchAddress, fetchedByte, fetchOrder, fetchTold, stripAfter}
 use Rattle.strip.proofs.Windows.{strip-byte}
 use Rattle.pixel.specs.Picture.{pixel, picture}
 use Rattle.pixel.proofs.Letters.{blocks}
@@ -79,8 +79,8 @@ one-more-write κs κs′ word a writes longer z z′ e p q d d′ =
 
 -- (ii) Strip byte W × n + c is the image's byte at the place of line n, byte c, and the value told is the strip's length.
 pub strip-bytes : (κs : Lfts 2) (s : Settings) (image strip : Lent) (z : Answer) (out : List ℕ) → Fetches κs s image strip z out → Done z
-    → (n c : ℕ) → n < 192 → c < width (s .look) → getD out (width (s .look) * n + c) 0 ≡ getD (now image) (placeOf s (length (now image)) n c) 0
-unfolding fetchPlace
+    → (n c : ℕ) → n < 192 → c < width (s .look) → getD out (width (s .look) * n + c) 0 ≡ getD (now image) (placeOf s n c) 0
+unfolding fetchAddress
 strip-bytes κs s image strip z out p d n c hn hc =
     let k : width (s .look) * n + c ≡ n * width (s .look) + c = ap (λ (m : ℕ). m + c) (mul-comm (width (s .look)) n) in
     let room : n * width (s .look) + width (s .look) ≤ stripLength (s .look) = rw (← suc-mul n (width (s .look))) (mul-le-mul-right (width (s .look)) hn) in
@@ -91,7 +91,7 @@ strip-bytes κs s image strip z out p d n c hn hc =
 pub strip-long : (κs : Lfts 2) (s : Settings) (image strip : Lent) (z : Answer) (out : List ℕ) → Fetches κs s image strip z out → Done z → value z ≡ stripLength (s .look)
 unfolding fetchTold
 strip-long κs s image strip z out p d =
-    ap (λ (t : Told). t .value) (p .0 ∙ done-says (done (stripLength (s .look))) refl (fetchOrder s (now image) (now strip)) tt (rw (p .0) at d))
+    ap (λ (t : Told). t .value) (p .0 ∙ done-says (done (stripLength (s .look))) refl (fetchOrder s (length (now image)) (length (now strip))) tt (rw (p .0) at d))
 
 -- (iii) Each pixel is that of the picture, and the value told is the border.
 pub frame-pixels : (κs : Lfts 3) (l : Look) (font strip frame : Lent) (z : Answer) (out : List ℕ) → Draws κs l font strip frame z out → Done z

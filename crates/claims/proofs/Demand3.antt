@@ -37,7 +37,7 @@ use Rattle.claims.proofs.Demand2.{Done, shown-byte, shown-pixel}
 -- Fetching alone: images of one length that agree at the fetched places give the same answer and strip.
 pub fetch-window : (s : Settings) (κs κs′ : Lfts 2) (image image′ strip strip′ : Lent) (z z′ : Answer) (out out′ : List ℕ)
     → length (now image) ≡ length (now image′) → now strip ≡ now strip′
-    → ((a : ℕ) → Fetched s (length (now image)) a → getD (now image) a 0 ≡ getD (now image′) a 0)
+    → ((a : ℕ) → Fetched s a → getD (now image) a 0 ≡ getD (now image′) a 0)
     → Fetches κs s image strip z out → Fetches κs′ s image′ strip′ z′ out′ → (z ≡ z′) × (out ≡ out′)
 fetch-window s κs κs′ image image′ strip strip′ z z′ out out′ long same agree p q = (
   one-answer (p .0 ∙ same-told s (now image) (now image′) (now strip) long agree) (q .0 ∙ rw same),
@@ -46,16 +46,16 @@ fetch-window s κs κs′ image image′ strip strip′ z z′ out out′ long s
 
 -- and where both calls are done, a strip byte differs exactly where the images differ at the place of its fetch; nothing else does.
 pub fetch-differs : (s : Settings) (κs κs′ : Lfts 2) (image image′ strip strip′ : Lent) (z z′ : Answer) (out out′ : List ℕ)
-    → length (now image) ≡ length (now image′) → now strip ≡ now strip′
+    → now strip ≡ now strip′
     → Fetches κs s image strip z out → Fetches κs′ s image′ strip′ z′ out′ → Done z → Done z′
     → ((k : ℕ) → k < stripLength (s .look)
-    → (getD out k 0 ≡ getD out′ k 0) ↔ (getD (now image) (fetchPlace s (length (now image)) k) 0 ≡ getD (now image′) (fetchPlace s (length (now image)) k) 0))
+    → (getD out k 0 ≡ getD out′ k 0) ↔ (getD (now image) (fetchPlace s k) 0 ≡ getD (now image′) (fetchPlace s k) 0))
     × ((k : ℕ) → stripLength (s .look) ≤ k → getD out k 0 ≡ getD out′ k 0)
-fetch-differs s κs κs′ image image′ strip strip′ z z′ out out′ long same p q d d′ =
+fetch-differs s κs κs′ image image′ strip strip′ z z′ out out′ same p q d d′ =
     let a = fetch-demand κs s image strip z out p .1 in
     let b = fetch-demand κs′ s image′ strip′ z′ out′ q .1 in (
       λ k h. let x = ap (λ (l : List ℕ). getD l k 0) (p .1) ∙ strip-byte s (now image) (now strip) (rw (p .0) at d) k h in
-          let y = ap (λ (l : List ℕ). getD l k 0) (q .1) ∙ strip-byte s (now image′) (now strip′) (rw (q .0) at d′) k h ∙ ap (λ (n : ℕ). getD (now image′) (fetchPlace s n k) 0) (sym long) in
+          let y = ap (λ (l : List ℕ). getD l k 0) (q .1) ∙ strip-byte s (now image′) (now strip′) (rw (q .0) at d′) k h in
           (λ e. sym x ∙ e ∙ y, λ e. x ∙ e ∙ sym y),
       λ k h. a .past k h ∙ ap (λ (l : List ℕ). getD l k 0) same ∙ sym (b .past k h),
     )
@@ -68,7 +68,7 @@ module _
     (p : Shows κs s image font strip frame z bytes pixels) (q : Shows κs′ s image′ font′ strip′ frame′ z′ bytes′ pixels′)
   where
     -- First half: images that agree at the fetched places give the same answer, strip and frame; so a refusal too depends on nothing else in them.
-    pub window : ((a : ℕ) → Fetched s (length (now image)) a → getD (now image) a 0 ≡ getD (now image′) a 0) → (z ≡ z′) × (bytes ≡ bytes′) × (pixels ≡ pixels′)
+    pub window : ((a : ℕ) → Fetched s a → getD (now image) a 0 ≡ getD (now image′) a 0) → (z ≡ z′) × (bytes ≡ bytes′) × (pixels ≡ pixels′)
     window agree =
         let e = same-shown s (now image) (now image′) (now font) (now strip) (now frame) long agree in (
           one-answer (p .0 ∙ e .0) (q .0 ∙ rw (same-font, same-strips, same-frames)),
@@ -78,11 +78,11 @@ module _
 
     -- Second half, of two accepted images: both calls are done. The place of fetch k is the same in both images.
     module _ (d : Done z) (d′ : Done z′) where
-      byte : (k : ℕ) → k < stripLength (s .look) → getD bytes k 0 ≡ getD (now image) (fetchPlace s (length (now image)) k) 0
+      byte : (k : ℕ) → k < stripLength (s .look) → getD bytes k 0 ≡ getD (now image) (fetchPlace s k) 0
       byte = shown-byte κs s image font strip frame z bytes pixels p d
 
-      byte′ : (k : ℕ) → k < stripLength (s .look) → getD bytes′ k 0 ≡ getD (now image′) (fetchPlace s (length (now image)) k) 0
-      byte′ k h = rw long (shown-byte κs′ s image′ font′ strip′ frame′ z′ bytes′ pixels′ q d′ k h)
+      byte′ : (k : ℕ) → k < stripLength (s .look) → getD bytes′ k 0 ≡ getD (now image′) (fetchPlace s k) 0
+      byte′ = shown-byte κs′ s image′ font′ strip′ frame′ z′ bytes′ pixels′ q d′
 
       pixel : (n : ℕ) → n < frameLength → getD pixels n 0 ≡ picture (s .look) (now font) bytes n
       pixel = shown-pixel κs s image font strip frame z bytes pixels p d
@@ -92,12 +92,12 @@ module _
 
       -- a strip byte differs exactly where the images differ at the place of its fetch
       pub differs-in-strip : (k : ℕ) → k < stripLength (s .look)
-          → (getD bytes k 0 ≡ getD bytes′ k 0) ↔ (getD (now image) (fetchPlace s (length (now image)) k) 0 ≡ getD (now image′) (fetchPlace s (length (now image)) k) 0)
+          → (getD bytes k 0 ≡ getD bytes′ k 0) ↔ (getD (now image) (fetchPlace s k) 0 ≡ getD (now image′) (fetchPlace s k) 0)
       differs-in-strip k h = (λ e. sym (byte k h) ∙ e ∙ byte′ k h, λ e. byte k h ∙ e ∙ sym (byte′ k h))
 
       -- in graphics it differs in at least one pixel that the fetch draws
       pub differs-in-frame : graphics (s .look) ≡ true → Bytes (now image) → Bytes (now image′) → (k : ℕ) → k < stripLength (s .look)
-          → (getD (now image) (fetchPlace s (length (now image)) k) 0 ≡ getD (now image′) (fetchPlace s (length (now image)) k) 0 → ⊥)
+          → (getD (now image) (fetchPlace s k) 0 ≡ getD (now image′) (fetchPlace s k) 0 → ⊥)
           → (n : ℕ) × (n < frameLength) × (owner (s .look) n ≡ k) × (getD pixels n 0 ≡ getD pixels′ n 0 → ⊥)
       differs-in-frame g small small′ k h differ =
           let w = shows (s .look) (now font) bytes bytes′ g k h (rw (byte k h) (small _)) (rw (byte′ k h) (small′ _)) (λ e. differ (differs-in-strip k h .0 e)) in
@@ -105,7 +105,7 @@ module _
 
       -- nothing else does: a pixel whose own fetch agrees is the same, in every mode
       pub same-elsewhere : (n : ℕ) → n < frameLength
-          → getD (now image) (fetchPlace s (length (now image)) (owner (s .look) n)) 0 ≡ getD (now image′) (fetchPlace s (length (now image)) (owner (s .look) n)) 0
+          → getD (now image) (fetchPlace s (owner (s .look) n)) 0 ≡ getD (now image′) (fetchPlace s (owner (s .look) n)) 0
           → getD pixels n 0 ≡ getD pixels′ n 0
       same-elsewhere n h e =
           pixel n h
@@ -123,7 +123,7 @@ module _
 abbrev pub Fifteen : Answer → ℕ → Type 0
 Fifteen z k = (toldOf z .number ≡ 15) × (toldOf z .place ≡ k)
 
--- no length that is lent to both at once is refused
+-- nothing is refused by the settings and the lengths that are lent to both at once
 abbrev pub LengthsPass : Settings → Lent → Lent → Lent → Lent → Type 0
 LengthsPass s image font strip frame = NoneHolds (showLengths s (length (now image)) (length (now font)) (length (now strip)) (length (now frame)))
 

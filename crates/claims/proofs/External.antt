@@ -135,7 +135,7 @@ show-fifteen κs s image font strip frame z bytes pixels p none k =
 
 -- "never by fetching alone".
 pub fetch-not-fifteen : (κs : Lfts 2) (s : Settings) (image strip : Lent) (z : Answer) (out : List ℕ) → Fetches κs s image strip z out → toldOf z .number ≡ 15 → ⊥
-fetch-not-fifteen κs s image strip z out p e = never 15 (fetchOrder s (now image) (now strip)) tt (fetch-demand κs s image strip z out p .0 .each 15 (omega arith) .0 e)
+fetch-not-fifteen κs s image strip z out p e = never 15 (fetchOrder s (length (now image)) (length (now strip))) tt (fetch-demand κs s image strip z out p .0 .each 15 (omega arith) .0 e)
 
 -- With 15 every buffer is as it was: the frame that was drawn on, and strip and frame of both at once.
 pub draw-kept : (κs : Lfts 3) (l : Look) (font strip frame : Lent) (z : Answer) (out : List ℕ) → Draws κs l font strip frame z out → toldOf z .number ≡ 15 → out ≡ now frame

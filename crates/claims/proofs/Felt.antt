@@ -1,4 +1,4 @@
--- What is felt and what is not. "M, P, R0 and TY alter nothing"; "INT/EXT has no effect while A/G is 1" (document 01).
+-- What is felt and what is not. P, R0 and TY alter nothing, while M counts (document 01, and document 02, CR 7); "INT/EXT has no effect while A/G is 1" (document 01).
 -- Stated once over the list of the fields that are felt, of any two calls that the contracts allow, with the same contents lent.
 use Prim.Native.Nat.{ℕ, _%_, _<_}
 use mathlib.Core.Path.{_≡_, refl, sym, ap, _∙_}
@@ -16,7 +16,7 @@ use Rattle.settings.specs.declared.Look.{Look}
 use Rattle.settings.specs.declared.Rule.{Rule}
 use Rattle.settings.specs.declared.Rule.the-variants.{One}
 use Rattle.settings.specs.declared.Settings.{Settings}
-use Rattle.settings.specs.Fields.{lookOf, settingsOf, ruleNumber, bits, videoMode, offset, graphics, gm, css}
+use Rattle.settings.specs.Fields.{lookOf, settingsOf, ruleNumber, bits, videoMode, offset, memory, graphics, gm, css}
 use Rattle.control.specs.Control.{withBit}
 use Rattle.claims.proofs.Calls.{Lent, Fetches, Draws, Shows, ReadsBack}
 use Rattle.claims.proofs.Alikes.{SameLook, SameFetches, by-fields, same-fetched, same-shown, drawTold-alike, frameAfter-alike, backTold-alike, stripBack-alike}
@@ -46,6 +46,8 @@ felt =
     ∷ offset
     -- R1
     ∷ (λ (s : Settings). bits (s .word) 12 1)
+    -- M1, M0
+    ∷ memory
     -- the rule
     ∷ (λ (s : Settings). ruleNumber (s .rule))
     -- and what is felt of the pins
@@ -58,10 +60,6 @@ unfelt =
     10
     -- R0
     ∷ 11
-    -- M0
-    ∷ 13
-    -- M1
-    ∷ 14
     -- TY
     ∷ 15
     ∷ []
@@ -78,7 +76,7 @@ same-look l m (above, (ag, (ext, (number, (colours, _))))) =
     record { above = by-number _ _ above; outside = by-bit (graphics l) (graphics m) _ _ mode ext; mode = mode; number = number; colours = colours }
 
 same-settings : (s t : Settings) → Alike felt s t → SameFetches s t
-same-settings s t (v, (f, (r, (u, look)))) = by-fields s t v f (ap (λ (n : ℕ). eqb n 1) r) (by-rule (s .rule) (t .rule) u) (same-look (s .look) (t .look) look)
+same-settings s t (v, (f, (r, (m, (u, look))))) = by-fields s t v f (ap (λ (n : ℕ). eqb n 1) r) m (by-rule (s .rule) (t .rule) u) (same-look (s .look) (t .look) look)
 
 -- Fetching: settings that are alike in what is felt give the same answer and strip.
 pub felt-fetch : (s t : Settings) → Alike felt s t → (κs κs′ : Lfts 2) (image image′ strip strip′ : Lent) (z z′ : Answer) (out out′ : List ℕ)
@@ -111,31 +109,25 @@ felt-back l m a κs κs′ frame frame′ strip strip′ z z′ out out′ x b p
       p .1 ∙ stripBack-alike e (now frame) (now strip) ∙ rw (x, b) (sym (q .1)),
     )
 
--- "M, P, R0 and TY alter nothing": words that agree in V, F and R1 are alike under the same pins and rule, whatever their other bits are;
-pub not-felt : (w w′ p : ℕ) (q : Rule) → bits w 0 3 ≡ bits w′ 0 3 → bits w 3 7 ≡ bits w′ 3 7 → bits w 12 1 ≡ bits w′ 12 1 → Alike felt (settingsOf w p q) (settingsOf w′ p q)
-not-felt w w′ p q v f r = (v, (f, (r, (refl, (refl, (refl, (refl, (refl, (refl, tt)))))))))
+-- P, R0 and TY alter nothing: words that agree in V, F, R1 and M are alike under the same pins and rule, whatever their other bits are;
+pub not-felt : (w w′ p : ℕ) (q : Rule) → bits w 0 3 ≡ bits w′ 0 3 → bits w 3 7 ≡ bits w′ 3 7 → bits w 12 1 ≡ bits w′ 12 1 → bits w 13 2 ≡ bits w′ 13 2 → Alike felt (settingsOf w p q) (settingsOf w′ p q)
+not-felt w w′ p q v f r m = (v, (f, (r, (m, (refl, (refl, (refl, (refl, (refl, (refl, tt))))))))))
 
 -- so each bit that is not felt may be set or cleared in any word.
 abbrev pub NotFelt : ℕ → Type 0
 NotFelt k = (w p b : ℕ) (q : Rule) → b < 2 → Alike felt (settingsOf (withBit w k b) p q) (settingsOf w p q)
 
 p-not-felt : NotFelt 10
-p-not-felt w p b q h = let d = bits-below w 10 b in not-felt (withBit w 10 b) w p q (omega arith) (omega arith) (ap (λ (n : ℕ). n % 2) (bits-above w 10 b h 1))
+p-not-felt w p b q h = let d = bits-below w 10 b in not-felt (withBit w 10 b) w p q (omega arith) (omega arith) (ap (λ (n : ℕ). n % 2) (bits-above w 10 b h 1)) (ap (λ (n : ℕ). n % 4) (bits-above w 10 b h 2))
 
 r0-not-felt : NotFelt 11
-r0-not-felt w p b q h = let d = bits-below w 11 b in not-felt (withBit w 11 b) w p q (omega arith) (omega arith) (ap (λ (n : ℕ). n % 2) (bits-above w 11 b h 0))
-
-m0-not-felt : NotFelt 13
-m0-not-felt w p b q h = let d = bits-below w 13 b in not-felt (withBit w 13 b) w p q (omega arith) (omega arith) (omega arith)
-
-m1-not-felt : NotFelt 14
-m1-not-felt w p b q h = let d = bits-below w 14 b in not-felt (withBit w 14 b) w p q (omega arith) (omega arith) (omega arith)
+r0-not-felt w p b q h = let d = bits-below w 11 b in not-felt (withBit w 11 b) w p q (omega arith) (omega arith) (ap (λ (n : ℕ). n % 2) (bits-above w 11 b h 0)) (ap (λ (n : ℕ). n % 4) (bits-above w 11 b h 1))
 
 ty-not-felt : NotFelt 15
-ty-not-felt w p b q h = let d = bits-below w 15 b in not-felt (withBit w 15 b) w p q (omega arith) (omega arith) (omega arith)
+ty-not-felt w p b q h = let d = bits-below w 15 b in not-felt (withBit w 15 b) w p q (omega arith) (omega arith) (omega arith) (omega arith)
 
 pub each-unfelt : Each NotFelt unfelt
-each-unfelt = (p-not-felt, (r0-not-felt, (m0-not-felt, (m1-not-felt, (ty-not-felt, tt)))))
+each-unfelt = (p-not-felt, (r0-not-felt, (ty-not-felt, tt)))
 
 -- "INT/EXT has no effect while A/G is 1": in graphics bit 4 of the pins may be set or cleared.
 pub ext-not-felt : (p b : ℕ) → b < 2 → graphics (lookOf p) ≡ true → Alike feltLook (lookOf (withBit p 4 b)) (lookOf p)
@@ -146,11 +138,11 @@ ext-not-felt p b h g =
 
 -- looks that are alike are so in settings with any word, under either rule
 pub by-look : (w : ℕ) (q : Rule) (l m : Look) → Alike feltLook l m → Alike felt (record { word = w; look = l; rule = q }) (record { word = w; look = m; rule = q })
-by-look w q l m a = (refl, (refl, (refl, (refl, a))))
+by-look w q l m a = (refl, (refl, (refl, (refl, (refl, a)))))
 
--- For instance: with P, R0, M0, M1 and TY all 0 or all 1, and with INT/EXT 0 or 1 in CG1.
-pub word-alike : Alike felt (settingsOf 0x0011 0x20 One) (settingsOf 0xEC11 0x20 One)
-word-alike = (refl, (refl, (refl, (refl, (refl, (refl, (refl, (refl, (refl, tt)))))))))
+-- For instance: with P, R0 and TY all 0 or all 1, and with INT/EXT 0 or 1 in CG1.
+pub word-alike : Alike felt (settingsOf 0x0011 0x20 One) (settingsOf 0x8C11 0x20 One)
+word-alike = (refl, (refl, (refl, (refl, (refl, (refl, (refl, (refl, (refl, (refl, tt))))))))))
 
 pub pins-alike : Alike felt (settingsOf 0x0011 0x20 One) (settingsOf 0x0011 0x30 One)
-pins-alike = (refl, (refl, (refl, (refl, (refl, (refl, (refl, (refl, (refl, tt)))))))))
+pins-alike = (refl, (refl, (refl, (refl, (refl, (refl, (refl, (refl, (refl, (refl, tt))))))))))

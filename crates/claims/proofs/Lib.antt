@@ -13,5 +13,6 @@ pub mod Cover
 pub mod LowerCase
 pub mod External
 pub mod Rules
+pub mod Banks
 pub mod Ascents
 pub mod Unfit

@@ -33,6 +33,7 @@ operations =
     ∷ fixed buffer.store-fixes
     ∷ fixed settings.video-mode-fixes
     ∷ fixed settings.offset-fixes
+    ∷ fixed settings.bank-bit-fixes
     ∷ fixed settings.graphics-fixes
     ∷ fixed settings.external-fixes
     ∷ fixed settings.gm-fixes
@@ -46,17 +47,20 @@ operations =
     ∷ fixed settings.text-back-fixes
     ∷ fixed settings.fast-rate-fixes
     ∷ fixed settings.image-length-fixes
+    ∷ fixed settings.not-suited-fixes
     ∷ fixed settings.font-length-fixes
     ∷ fixed settings.short-strip-fixes
     ∷ fixed settings.short-frame-fixes
     ∷ fixed control.play-fixes
     ∷ fixed counter.ends-count-fixes
+    ∷ fixed counter.row-lasts-fixes
     ∷ fixed counter.start-fixes
     ∷ fixed counter.carry-fixes
     ∷ fixed counter.advance-fixes
     ∷ fixed counter.fall-fixes
     ∷ fixed counter.cleared-fixes
     ∷ fixed counter.clear-fixes
+    ∷ fixed strip.not-fitted-fixes
     ∷ fixed strip.fetch-fixes
     ∷ fixed valid.not-valid-fixes
     ∷ fixed frame.draw-fixes
@@ -107,6 +111,7 @@ pub named : map (λ o. o .operation .key) operations
     ∷ "buffer::store"
     ∷ "settings::video_mode"
     ∷ "settings::offset"
+    ∷ "settings::bank_bit"
     ∷ "settings::graphics"
     ∷ "settings::external"
     ∷ "settings::gm"
@@ -120,17 +125,20 @@ pub named : map (λ o. o .operation .key) operations
     ∷ "settings::text_back"
     ∷ "settings::fast_rate"
     ∷ "settings::image_length"
+    ∷ "settings::not_suited"
     ∷ "settings::font_length"
     ∷ "settings::short_strip"
     ∷ "settings::short_frame"
     ∷ "control::play"
     ∷ "counter::ends_count"
+    ∷ "counter::row_lasts"
     ∷ "counter::start"
     ∷ "counter::Counter::carry"
     ∷ "counter::Counter::advance"
     ∷ "counter::Counter::fall"
     ∷ "counter::Counter::cleared"
     ∷ "counter::Counter::clear"
+    ∷ "strip::not_fitted"
     ∷ "strip::fetch"
     ∷ "valid::not_valid"
     ∷ "frame::draw"

@@ -1,7 +1,7 @@
 -- CR 6, the fetch rules. "Show that the two agree wherever document 003's mode table pairs the pins with the SAM mode"; exactly where they
 -- differ; and that the rule of a sheet goes with the settings, and a sheet without one, or a refused one, is rule 1.
 -- Demands 2 and 3 speak of settings, and so of both rules: neither is said again here.
-use Prim.Native.Nat.{ℕ, _%_, _<_}
+use Prim.Native.Nat.{ℕ, _<_}
 use mathlib.Core.Path.{_≡_, refl, sym, ap, _∙_}
 use mathlib.Core.Bool.{Bool, true, false, _&&_}
 use mathlib.Core.Logic.{_⊎_, inl, inr}
@@ -10,7 +10,7 @@ use native.Mathlib.Omega.{arith}
 use contract.Lifetimes.{Lfts}
 use denote.Ref.{now}
 use lib.Dec.{T}
-use lib.ListN.{length, getD}
+use lib.ListN.{getD}
 use borrow.Author.Tests.{eqb-true}
 use Rattle.promises.proofs.Choices.{by-test}
 use Rattle.answer.specs.declared.Answer.{Answer}
@@ -19,15 +19,13 @@ use Rattle.settings.specs.declared.Rule.the-variants.{One, Two}
 use Rattle.settings.specs.declared.Settings.{Settings}
 use Rattle.settings.specs.Fields.{settingsOf, under}
 use Rattle.settings.specs.Modes.{width}
-use Rattle.settings.proofs.Images.{by-image}
 use Rattle.settings.proofs.Widths.{width-cases}
 use Rattle.counter.specs.Counter.{divY, kept, fall, carry, advance, clear, bytesOn, start, lineStart, addressOf}
 use Rattle.counter.specs.Pairs.{paired}
 use Rattle.counter.specs.Steps.{clearsB4}
 use Rattle.counter.proofs.Tables.{divY-le}
 use Rattle.counter.proofs.Rules.{steady-agree, paired-agree, line-differs}
-use Rattle.strip.specs.Fetch.{imagePlace}
-use Rattle.strip.proofs.Fetches.{accepted}
+use Rattle.settings.specs.Banks.{imagePlace}
 use Rattle.text.specs.Hex.{hex}
 use Rattle.grammar.specs.Sheet.{pinsWord, ruleWord, ruleDigit, free, Fields, ValidSheet, render}
 use Rattle.grammar.specs.Given.{fieldsIn, ruleGiven}
@@ -126,12 +124,8 @@ pub differ-in-strip : (κs κs′ : Lfts 2) (image strip strip′ : Lent) (z z�
     → (getD (now image) 0x0000 0 ≡ getD (now image) 0x0100 0 → ⊥) → out ≡ out′ → ⊥
 unfolding imagePlace width
 differ-in-strip κs κs′ image strip strip′ z z′ out out′ p q d d′ differ e =
-    let size = length (now image) in
-    let fits = accepted (p8 One) (now image) (now strip) (rw (p .0) at d) .0 in
-    let zero : 0x0000 % size ≡ 0x0000 = by-image (λ n. 0x0000 % n ≡ 0x0000) refl refl refl refl refl size fits in
-    let row : 0x0100 % size ≡ 0x0100 = by-image (λ n. 0x0100 % n ≡ 0x0100) refl refl refl refl refl size fits in
-    let one : getD out 1600 0 ≡ getD (now image) 0x0000 0 = strip-bytes κs (p8 One) image strip z out p d 100 0 (omega arith) (omega arith) ∙ rw p8-one (ap (λ (a : ℕ). getD (now image) a 0) zero) in
-    let two : getD out′ 1600 0 ≡ getD (now image) 0x0100 0 = strip-bytes κs′ (p8 Two) image strip′ z′ out′ q d′ 100 0 (omega arith) (omega arith) ∙ rw p8-two (ap (λ (a : ℕ). getD (now image) a 0) row) in
+    let one : getD out 1600 0 ≡ getD (now image) 0x0000 0 = strip-bytes κs (p8 One) image strip z out p d 100 0 (omega arith) (omega arith) ∙ ap (λ (a : ℕ). getD (now image) (imagePlace (p8 One) a) 0) p8-one in
+    let two : getD out′ 1600 0 ≡ getD (now image) 0x0100 0 = strip-bytes κs′ (p8 Two) image strip′ z′ out′ q d′ 100 0 (omega arith) (omega arith) ∙ ap (λ (a : ℕ). getD (now image) (imagePlace (p8 Two) a) 0) p8-two in
     differ (sym one ∙ ap (λ (l : List ℕ). getD l 1600 0) e ∙ two)
 
 -- ---- The sheet. Its rule is the one that its line gives, and rule 1 without it. (A refused sheet yields rule 1: `refused-yields-nothing`, Demand1.antt.)

@@ -24,10 +24,12 @@ use Rattle.settings.specs.declared.Rule.the-variants.{One}
 use Rattle.settings.specs.declared.Settings.{Settings}
 use Rattle.settings.specs.Fields.{lookOf, settingsOf, bits, graphics}
 use Rattle.settings.specs.Modes.{width, dots, fontSize}
+use Rattle.settings.specs.Banks.{suited, missing}
 use Rattle.settings.specs.Refusals.{imageFits, stripLength, frameLength}
 use Rattle.control.specs.Control.{wordAfter, firstElsewhere, playOrder}
 use Rattle.control.proofs.Masks.{bit-there}
-use Rattle.strip.specs.Fetch.{placeOf, fetchPlace, fetchedByte, fetchOrder}
+use Rattle.strip.specs.Fetch.{placeOf, fetchPlace, fetchedByte, firstMissing, fetchOrder}
+use Rattle.strip.proofs.Banks.{none-missing, not-found, none-refused}
 use Rattle.strip.proofs.Windows.{strip-byte}
 use Rattle.pixel.specs.Dots.{oneBit, bit}
 use Rattle.pixel.specs.Text.{pattern, inverted, letter, lit, ink, block}
@@ -65,7 +67,7 @@ use Rattle.claims.proofs.Ascents.{rg6, goes-up}
 pub play-accepts : (κs : Lfts 1) (word : ℕ) (writes : Lent) (z : Answer) → Plays κs word writes z → (Done z) ↔ NoneHolds (playOrder word (now writes))
 play-accepts κs word writes z p = play-demand κs word writes z p .done-if
 
-pub fetch-accepts : (κs : Lfts 2) (s : Settings) (image strip : Lent) (z : Answer) (out : List ℕ) → Fetches κs s image strip z out → (Done z) ↔ NoneHolds (fetchOrder s (now image) (now strip))
+pub fetch-accepts : (κs : Lfts 2) (s : Settings) (image strip : Lent) (z : Answer) (out : List ℕ) → Fetches κs s image strip z out → (Done z) ↔ NoneHolds (fetchOrder s (length (now image)) (length (now strip)))
 fetch-accepts κs s image strip z out p = fetch-demand κs s image strip z out p .0 .done-if
 
 pub draw-accepts : (κs : Lfts 3) (l : Look) (font strip frame : Lent) (z : Answer) (out : List ℕ) → Draws κs l font strip frame z out → (Done z) ↔ NoneHolds (drawOrder l (now font) (now strip) (now frame))
@@ -115,9 +117,18 @@ pub some-played : NoneHolds (playOrder 0x0000 (0xFFC1 ∷ 0xFFC9 ∷ 0xFFD6 ∷ 
 unfolding firstElsewhere
 some-played = (refl, tt)
 
-pub some-fetched : NoneHolds (fetchOrder (settingsOf 0x0000 0x2E One) (zeros 4096) (zeros 6144))
-unfolding imageFits width
-some-fetched = (refl, (refl, (refl, (refl, tt))))
+-- a window that lies in the one bank of its board, and one of a board that has every bank
+one-bank : 6144 ≡ firstMissing (settingsOf 0x0000 0x2E One) 4096
+unfolding width missing
+one-bank = not-found (settingsOf 0x0000 0x2E One) 4096 refl refl (omega arith)
+
+every-bank : (p : ℕ) → 192 * width (lookOf p) ≡ firstMissing (settingsOf 0x4000 p One) 65536
+unfolding missing
+every-bank p = none-missing (settingsOf 0x4000 p One) 65536 refl
+
+pub some-fetched : NoneHolds (fetchOrder (settingsOf 0x0000 0x2E One) 4096 6144)
+unfolding imageFits suited width
+some-fetched = (refl, (refl, (refl, (refl, (refl, (none-refused (settingsOf 0x0000 0x2E One) 4096 one-bank, tt))))))
 
 -- in graphics, in internal text and in external text
 pub some-drawn : NoneHolds (drawOrder (lookOf 0x2E) [] (zeros 6144) (zeros frameLength))
@@ -133,11 +144,11 @@ some-drawn = (
 pub some-shown : NoneHolds (showOrder (settingsOf 0x0000 0x2E One) (zeros 4096) [] (zeros 6144) (zeros frameLength))
     × NoneHolds (showOrder (settingsOf 0x4000 0x00 One) (zeros 65536) (zeros 1152) (zeros 6144) (zeros frameLength))
     × NoneHolds (showOrder (settingsOf 0x4000 0x10 One) (zeros 65536) (zeros 3072) (zeros 6144) (zeros frameLength))
-unfolding imageFits width fontSize
+unfolding imageFits suited width fontSize
 some-shown = (
-  (refl, (refl, (refl, (refl, (refl, (refl, bytes-internal (lookOf 0x2E) _ refl)))))),
-  (refl, (refl, (refl, (refl, (refl, (refl, bytes-internal (lookOf 0x00) _ refl)))))),
-  (refl, (refl, (refl, (refl, (refl, (refl, bytes-low (lookOf 0x10) _ (λ k h. all-zero 65536 (fetchPlace (settingsOf 0x4000 0x10 One) 65536 k)))))))),
+  (refl, (refl, (refl, (refl, (refl, (refl, (refl, (none-refused (settingsOf 0x0000 0x2E One) 4096 one-bank, bytes-internal (lookOf 0x2E) _ refl)))))))),
+  (refl, (refl, (refl, (refl, (refl, (refl, (refl, (none-refused (settingsOf 0x4000 0x00 One) 65536 (every-bank 0x00), bytes-internal (lookOf 0x00) _ refl)))))))),
+  (refl, (refl, (refl, (refl, (refl, (refl, (refl, (none-refused (settingsOf 0x4000 0x10 One) 65536 (every-bank 0x10), bytes-low (lookOf 0x10) _ (λ k h. all-zero 65536 (fetchPlace (settingsOf 0x4000 0x10 One) k)))))))))),
 )
 
 none-stray : firstStray (lookOf 0x20) (zeros frameLength) ≡ frameLength
@@ -285,13 +296,13 @@ module _ (κs κs′ : Lfts 1) (word a : ℕ) (writes longer : Lent) (z z′ : A
 
 -- The same of lines: for every line n and byte c of it, where two images differ at its place, byte W × n + c of the strips differs.
 pub not-first-line-only : (κs κs′ : Lfts 2) (s : Settings) (image image′ strip strip′ : Lent) (z z′ : Answer) (out out′ : List ℕ)
-    → Fetches κs s image strip z out → Fetches κs′ s image′ strip′ z′ out′ → Done z → Done z′ → length (now image) ≡ length (now image′)
-    → (n c : ℕ) → n < 192 → c < width (s .look) → (getD (now image) (placeOf s (length (now image)) n c) 0 ≡ getD (now image′) (placeOf s (length (now image)) n c) 0 → ⊥)
+    → Fetches κs s image strip z out → Fetches κs′ s image′ strip′ z′ out′ → Done z → Done z′
+    → (n c : ℕ) → n < 192 → c < width (s .look) → (getD (now image) (placeOf s n c) 0 ≡ getD (now image′) (placeOf s n c) 0 → ⊥)
     → getD out (width (s .look) * n + c) 0 ≡ getD out′ (width (s .look) * n + c) 0 → ⊥
-not-first-line-only κs κs′ s image image′ strip strip′ z z′ out out′ p q d d′ long n c hn hc differ same =
+not-first-line-only κs κs′ s image image′ strip strip′ z z′ out out′ p q d d′ n c hn hc differ same =
     let a = strip-bytes κs s image strip z out p d n c hn hc in
     let b = strip-bytes κs′ s image′ strip′ z′ out′ q d′ n c hn hc in
-    differ (sym a ∙ same ∙ b ∙ ap (λ (m : ℕ). getD (now image′) (placeOf s m n c) 0) (sym long))
+    differ (sym a ∙ same ∙ b)
 
 -- There are such images for every line n, accepted both, that differ at no place of another line: RG6 with SAM mode 6, where line n's places are its own.
 pub plain : List ℕ
@@ -313,14 +324,14 @@ unfolding marked
 marked-long n = length-set plain (32 * n) 1 ∙ plain-long
 
 -- an image of that length is accepted
-accepted-image : (image : List ℕ) → length image ≡ 65536 → NoneHolds (fetchOrder rg6 image (zeros 6144))
-unfolding imageFits width
-accepted-image image e = (refl, (refl, (rw e refl, (refl, tt))))
+accepted-image : (image : List ℕ) → length image ≡ 65536 → NoneHolds (fetchOrder rg6 (length image) 6144)
+unfolding imageFits suited width missing
+accepted-image image e = rw e (refl, (refl, (refl, (refl, (refl, (none-refused rg6 65536 (none-missing rg6 65536 refl), tt))))))
 
 pub line-alone : (n : ℕ) → n < 192
-    → NoneHolds (fetchOrder rg6 plain (zeros 6144)) × NoneHolds (fetchOrder rg6 (marked n) (zeros 6144)) × (length plain ≡ 65536) × (length (marked n) ≡ 65536)
-    × (getD plain (placeOf rg6 65536 n 0) 0 ≡ getD (marked n) (placeOf rg6 65536 n 0) 0 → ⊥)
-    × ((m c : ℕ) → m < 192 → c < 32 → (m ≡ n → ⊥) → getD plain (placeOf rg6 65536 m c) 0 ≡ getD (marked n) (placeOf rg6 65536 m c) 0)
+    → NoneHolds (fetchOrder rg6 (length plain) 6144) × NoneHolds (fetchOrder rg6 (length (marked n)) 6144) × (length plain ≡ 65536) × (length (marked n) ≡ 65536)
+    × (getD plain (placeOf rg6 n 0) 0 ≡ getD (marked n) (placeOf rg6 n 0) 0 → ⊥)
+    × ((m c : ℕ) → m < 192 → c < 32 → (m ≡ n → ⊥) → getD plain (placeOf rg6 m c) 0 ≡ getD (marked n) (placeOf rg6 m c) 0)
 unfolding marked
 line-alone n h = (
   accepted-image plain plain-long,
@@ -328,7 +339,7 @@ line-alone n h = (
   plain-long,
   marked-long n,
   λ same.
-      let there : placeOf rg6 65536 n 0 ≡ 32 * n = goes-up n 0 h (omega arith) ∙ omega arith in
+      let there : placeOf rg6 n 0 ≡ 32 * n = goes-up n 0 h (omega arith) ∙ omega arith in
       let x : _≡_ {A = ℕ} 0 1 = sym (plain-zero (32 * n) (omega arith)) ∙ rw there at same ∙ getD-set-same plain (32 * n) 1 0 (omega (arith, plain-long)) in
       omega arith,
   λ m c hm hc other. rw (goes-up m c hm hc) (sym (getD-set-other plain (32 * n) (32 * m + c) 1 0 (λ e. other (omega arith)))),

@@ -9,7 +9,7 @@ use lib.Dec.{lit<, eqb, ltb, eqb→eq}
 use lib.ListN.{getD}
 use borrow.Author.Tests.{eq-eqb, ne-eqb, le-ltb, eqb-true}
 use Rattle.promises.specs.Choose.{choose}
-use Rattle.promises.proofs.Choices.{of-both, by-test, both-pass}
+use Rattle.promises.proofs.Choices.{of-both, by-test, both-pass, and-false}
 use Rattle.promises.proofs.Tables.{each-below}
 use Rattle.settings.specs.declared.Settings.{Settings}
 use Rattle.settings.specs.Fields.{videoMode}
@@ -55,7 +55,7 @@ module _ (s : Settings) where
 
   -- where it is cleared, X is 1: each run flips it
   module _ (five : kept s ≡ 5) where
-    x-one : divX s ≡ 1
+    pub x-one : divX s ≡ 1
     x-one =
         let t = each-below (λ v. not (eqb (getD keptFrom v 0) 5) || eqb (getD timesX v 0) 1) 8 tt (videoMode s) (mod-lt _ (lit< tt)) in
         eqb→eq (divX s) 1 (rw (eq-eqb (kept s) 5 five) at t)
@@ -71,11 +71,14 @@ module _ (s : Settings) where
         rw r (simp (x-full (c .x), eq-eqb (c .address % 32) 0 (l .low)))
 
     -- and from 1 to 0
-    falls : (c : Counter) → c .address % 32 ≡ 16 → Level (carry s c)
+    falls-to : (c : Counter) → c .address % 32 ≡ 16 → carry s c ≡ fall s (counter (c .address - 16) 0 (c .y))
     unfolding carry
-    falls c h =
+    falls-to c h =
         let r : run c ≡ c .address = omega arith in
-        rw r (simp (x-full (c .x), ne-eqb (c .address % 32) 0 (λ z. omega arith)) (fall-level (counter (c .address - 16) 0 (c .y)) (record { low = omega arith; rest = refl })))
+        rw r (simp (x-full (c .x), ne-eqb (c .address % 32) 0 (λ z. omega arith)))
+
+    falls : (c : Counter) → c .address % 32 ≡ 16 → Level (carry s c)
+    falls c h = rw (falls-to c h) (fall-level (counter (c .address - 16) 0 (c .y)) (record { low = omega arith; rest = refl }))
 
     -- a line's last run leaves the X divider at 0
     carry-rest : (c : Counter) → carry s c .x ≡ 0
@@ -136,6 +139,37 @@ module _ (s : Settings) where
           wide : (width (s .look) ≡ 16) ⊎ (width (s .look) ≡ 32) → clearsB4 s ≡ true → width (s .look) ≡ 32
           wide (inl e) t = absurd (true≢false (rw (e, t) at h))
           wide (inr e) t = e
+
+  -- a line of two runs, whose end clears B4: it falls once
+  module _ (five : kept s ≡ 5) (two : width (s .look) ≡ 32) where
+    level-cleared : (c : Counter) → Level c → cleared s c ≡ c
+    level-cleared c l =
+        let e : cleared s c .address ≡ c .address = rw five (omega (arith, l .low)) in
+        λ i. record { address = e i; x = c .x; y = c .y }
+
+    run-on : (n : ℕ) → carry s (lineStart s n) ≡ counter (lineStart s n .address + 16) 0 (lineStart s n .y)
+    run-on n =
+        let c = lineStart s n in
+        let l = line-level five n in
+        rises five c l ∙ ap (λ (a : ℕ). counter a 0 (c .y)) (wrap-small (c .address) 16 (omega (arith, l .low, line-aligned s n .fits)))
+
+    -- both runs lie in one row of 32 places
+    pub second-run : (n : ℕ) → bytesOn s 16 (lineStart s n) .address / 32 ≡ lineStart s n .address / 32
+    second-run n = ap (λ (d : Counter). d .address / 32) (run-end s (lineStart s n) (line-aligned s n) ∙ run-on n) ∙ omega (arith, line-level five n .low)
+
+    pub wide-end : (n : ℕ) → lineStart s (n + 1) ≡ fall s (lineStart s n)
+    wide-end n =
+        let c = lineStart s n in
+        let l = line-level five n in
+        let low : c .address + 16 - 16 ≡ c .address = omega arith in
+        let rest : 0 ≡ c .x = sym (l .rest) in
+        let back : counter (c .address + 16 - 16) 0 (c .y) ≡ c = λ i. record { address = low i; x = rest i; y = c .y } in
+        let not-16 : endsCount s ≡ false = rw two (and-false (clearingCounts (s .rule))) in
+        plain-end not-16 n
+        ∙ ap (cleared s)
+        (ap (λ (w : ℕ). bytesOn s w c) two ∙ two-runs five c (line-aligned s n) ∙ ap (carry s) (run-on n)
+        ∙ falls-to five (counter (c .address + 16) 0 (c .y)) (omega (arith, l .low)) ∙ ap (fall s) back)
+        ∙ level-cleared (fall s c) (fall-level c l)
 
   -- a line of one run leaves B4 set; cleared, the counter is where the line started
   module _ (five : kept s ≡ 5) (one : width (s .look) ≡ 16) (n : ℕ) where

@@ -92,3 +92,12 @@ line-aligned s (suc n) = clear-aligned s (bytesOn s (width (s .look)) (lineStart
 
 pub line-end-aligned : (s : Settings) (n : ℕ) → Aligned (bytesOn s (width (s .look)) (lineStart s n))
 line-end-aligned s n = width-aligned s (lineStart s n) (line-aligned s n)
+
+-- every address has sixteen bits
+pub byte-fits : (s : Settings) (c : Counter) → Aligned c → (j : ℕ) → bytesOn s j c .address < 2 ^ 16
+byte-fits s c al j =
+    let d : Counter = bytesOn s (16 * (j / 16)) c in
+    let k : 16 * (j / 16) + j % 16 ≡ j = omega arith in
+    let e : bytesOn s j c ≡ counter (wrap (d .address) (j % 16)) (d .x) (d .y) =
+    ap (λ (i : ℕ). bytesOn s i c) (sym k) ∙ bytesOn-on s (16 * (j / 16)) (j % 16) c ∙ in-run s d (runs-aligned s c al (j / 16)) (j % 16) (omega arith) in
+    rw e (wrap-lt (d .address) (j % 16))

@@ -19,11 +19,24 @@ use Rattle.counter.specs.Counter.{timesX, timesY, keptFrom, divX, divY, 
 pub divX-le : (s : Settings) → divX s ≤ 3
 divX-le s = leb→le (divX s) 3 (each-below (λ v. leb (getD timesX v 0) 3) 8 tt (videoMode s) (mod-lt _ (lit< tt)))
 
+pub divX-pos : (s : Settings) → 0 < divX s
+divX-pos s = leb→le 1 (divX s) (each-below (λ v. leb 1 (getD timesX v 0)) 8 tt (videoMode s) (mod-lt _ (lit< tt)))
+
 pub divY-le : (s : Settings) → divY s ≤ 12
 divY-le s = leb→le (divY s) 12 (each-below (λ v. leb (getD timesY v 0) 12) 8 tt (videoMode s) (mod-lt _ (lit< tt)))
 
 pub divY-pos : (s : Settings) → 0 < divY s
 divY-pos s = leb→le 1 (divY s) (each-below (λ v. leb 1 (getD timesY v 0)) 8 tt (videoMode s) (mod-lt _ (lit< tt)))
+
+pub divs-le : (s : Settings) → divX s * divY s ≤ 12
+divs-le s = leb→le (divX s * divY s) 12 (each-below (λ v. leb (getD timesX v 0 * getD timesY v 0) 12) 8 tt (videoMode s) (mod-lt _ (lit< tt)))
+
+-- facts about X and Y by the rows of the table, the smallest first
+pub by-x : (s : Settings) (P : ℕ → Type 0) → P 1 → P 2 → P 3 → P (divX s)
+by-x s P a b c = each P timesX 0 (a, (c, (a, (b, (a, (a, (a, (a, tt)))))))) (videoMode s) (mod-lt _ (lit< tt))
+
+pub by-y : (s : Settings) (P : ℕ → Type 0) → P 1 → P 2 → P 3 → P 12 → P (divY s)
+by-y s P a b c d = each P timesY 0 (d, (a, (c, (a, (b, (a, (a, (a, tt)))))))) (videoMode s) (mod-lt _ (lit< tt))
 
 -- a fact about the lowest bit kept, B5, B4 or B1, by the rows of the table
 pub by-kept : (s : Settings) (P : ℕ → Type 0) → P 5 → P 4 → P 1 → P (kept s)

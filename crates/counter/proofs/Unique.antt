@@ -3,6 +3,7 @@ use mathlib.Core.Path.{refl, sym, _∙_}
 use base.Logic.{emp, id⊢}
 use Rattle.promises.specs.Fixes.{Operation, Fixes, whole, one-tells}
 use Rattle.counter.proofs.ends_count as ends-count
+use Rattle.counter.proofs.row_lasts as row-lasts
 use Rattle.counter.proofs.start as start
 use Rattle.counter.proofs.Counter.carry as carry
 use Rattle.counter.proofs.Counter.advance as advance
@@ -15,6 +16,16 @@ ends-count-op = record { key = ends-count.Key.name; T = ends-count.ended; clause
 
 pub ends-count-fixes : Fixes ends-count-op
 ends-count-fixes = record {
+  takes-all = λ w κs a g. id⊢ (w .𝓤) (emp (w .𝓤));
+  tells = λ w κs a g z e. one-tells (w .𝓤) _;
+  one-outcome = λ κs a z z′ ws ws′ p q. (p ∙ sym q, refl);
+}
+
+abbrev pub row-lasts-op : Operation
+row-lasts-op = record { key = row-lasts.Key.name; T = row-lasts.ended; clauses = λ M. row-lasts.clauses; Says = row-lasts.Reads.Learnt; O = _; seen = λ κs. whole }
+
+pub row-lasts-fixes : Fixes row-lasts-op
+row-lasts-fixes = record {
   takes-all = λ w κs a g. id⊢ (w .𝓤) (emp (w .𝓤));
   tells = λ w κs a g z e. one-tells (w .𝓤) _;
   one-outcome = λ κs a z z′ ws ws′ p q. (p ∙ sym q, refl);

@@ -5,7 +5,7 @@ ghost use mathlib.Core.Path.{_≡_};
 ghost use Prim.Native.Nat.{_<_};
 ghost use lib.ListN.{getD};
 ghost use Rattle.counter.specs.Counter.{timesX, timesY, keptFrom, start, fall, carry, advance, cleared, clearingCounts, clear};
-ghost use Rattle.counter.specs.Steps.{endsCount};
+ghost use Rattle.counter.specs.Steps.{endsCount, rowLasts};
 
 // The address bits B0-B15, and the counts of the X and Y dividers.
 pub struct Counter {
@@ -67,6 +67,24 @@ pub fn ends_count(settings: Settings) -> bool
     let one_run = settings::width(settings.look) == 16;
     let kept = kept_from(settings::video_mode(settings));
     clearing_counts(rule) & (one_run & (kept == 5))
+}
+
+// How many fetches a row of 32 places lasts, the same for every row of a frame.
+pub fn row_lasts(settings: Settings) -> usize
+    ensures { λ r. ⌜ r ≡ rowLasts settings ⌝ }
+{
+    let v = settings::video_mode(settings);
+    let x = times_x(v);
+    let y = times_y(v);
+    let wide = settings::width(settings.look);
+    let kept = kept_from(v);
+    if ends_count(settings) {
+        return 16 * y;
+    }
+    if (wide == 16) & (kept == 5) {
+        return 16 * 192;
+    }
+    32 * (x * y)
 }
 
 // The counter before a frame's first byte.

@@ -104,6 +104,10 @@ abbrev pub afterEach : List Check → Told → Told
 afterEach [] t = t
 afterEach (c ∷ cs) t = afterEach cs (after c t)
 
+-- one more, after those before it
+pub next : (c : Check) {t u v : Told} → v ≡ after c u → u ≡ t → v ≡ after c t
+next c p q = p ∙ ap (after c) q
+
 -- a refusal that was given stays
 after-refusal : (c : Check) (t : Told) → 0 < t .number → after c t ≡ t
 unfolding after

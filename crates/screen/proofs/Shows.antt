@@ -13,7 +13,7 @@ use Rattle.promises.proofs.Later.{first-refuses, first-passes, first-done}
 use Rattle.settings.specs.declared.Settings.{Settings}
 use Rattle.settings.specs.Modes.{border}
 use Rattle.settings.specs.Refusals.{stripLength, shortStrip}
-use Rattle.strip.specs.Fetch.{fetchedByte, fetchPlaces, fetchOrder, fetchTold, stripAfter, Fetched}
+use Rattle.strip.specs.Fetch.{fetchedByte, fetchOrder, fetchTold, stripAfter, Fetched}
 use Rattle.strip.proofs.Fetches.{strip-done, strip-same-length}
 use Rattle.strip.proofs.Windows.{strip-byte, same-fetched, same-strip}
 use Rattle.frame.specs.Draw.{drawLengths, drawTold, frameAfter}
@@ -74,8 +74,8 @@ module _ (s : Settings) (image font strip frame : List ℕ) where
       pub fetch-done : fetchTold s image room .number ≡ 0
       unfolding fetchTold
       fetch-done =
-          done-when (done (stripLength (s .look))) refl (fetchOrder s image room) tt .1
-          (passing (1 ∷ 4 ∷ 5 ∷ 7 ∷ []) (showLengths s (length image) (length font) (length room) (length frame)) there)
+          done-when (done (stripLength (s .look))) refl (fetchOrder s (length image) (length room)) tt .1
+          (passing (1 ∷ 4 ∷ 5 ∷ 16 ∷ 7 ∷ 17 ∷ []) (showLengths s (length image) (length font) (length room) (length frame)) there)
 
       pub fetched-byte : (k : ℕ) → k < stripLength (s .look) → getD (stripAfter s image room) k 0 ≡ fetchedByte s image k
       fetched-byte = strip-byte s image room fetch-done
@@ -125,10 +125,10 @@ module _ (s : Settings) (image font strip frame : List ℕ) where
 
 -- images of one length that agree at the fetched places: what is told and left by one is told and left by the other
 module _ (s : Settings) (image other font strip frame : List ℕ) (long : length image ≡ length other)
-    (agree : (p : ℕ) → Fetched s (length image) p → getD image p 0 ≡ getD other p 0)
+    (agree : (p : ℕ) → Fetched s p → getD image p 0 ≡ getD other p 0)
   where
     same-fetched-checks : showFetched s image ≡ showFetched s other
-    same-fetched-checks = ap₂ _++_ (ap (fetchPlaces s) long) (same-bytes (s .look) (fetchedByte s image) (fetchedByte s other) (same-fetched s image other strip long agree))
+    same-fetched-checks = same-bytes (s .look) (fetchedByte s image) (fetchedByte s other) (same-fetched s image other strip long agree)
 
     pub same-shown : (showTold s image font strip frame ≡ showTold s other font strip frame)
         × (stripShown s image font strip frame ≡ stripShown s other font strip frame)

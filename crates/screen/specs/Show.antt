@@ -1,4 +1,4 @@
--- Both at once: the order 1, 4, 5, 6, 7, 8, 15 of documents 01 and 02, and strip and frame as fetching and drawing define them.
+-- Both at once: the order 1, 4, 5, 16, 6, 7, 8, 17, 15 of documents 01 and 02, and strip and frame as fetching and drawing define them.
 use Prim.Native.Nat.{ℕ}
 use mathlib.Core.List.{List, [], _∷_, _++_}
 use lib.ListN.{length}
@@ -7,18 +7,18 @@ use Rattle.promises.specs.Order.{Check, firstOf}
 use Rattle.promises.specs.Written.{leaves}
 use Rattle.settings.specs.declared.Settings.{Settings}
 use Rattle.settings.specs.Modes.{border}
-use Rattle.settings.specs.Refusals.{pinsAbove, fastRate, imageLength, fontLength, shortStrip, shortFrame}
-use Rattle.strip.specs.Fetch.{fetchedByte, fetchPlaces, stripAfter}
+use Rattle.settings.specs.Refusals.{pinsAbove, fastRate, imageLength, notSuited, fontLength, shortStrip, shortFrame}
+use Rattle.strip.specs.Fetch.{fetchedByte, notFitted, stripAfter}
 use Rattle.frame.specs.Draw.{drawBytes, frameAfter}
 
--- both at once checks 1, 4, 5, 6, 7, 8, by the settings and the lengths of image, font, strip and frame
+-- both at once checks 1, 4, 5, 16, 6, 7, 8, 17, by the settings and the lengths of image, font, strip and frame
 abbrev pub showLengths : Settings → ℕ → ℕ → ℕ → ℕ → List Check
 showLengths s image font strip frame =
-    pinsAbove (s .look) ∷ fastRate s ∷ imageLength image ∷ fontLength (s .look) font ∷ shortStrip (s .look) strip ∷ shortFrame frame ∷ []
+    pinsAbove (s .look) ∷ fastRate s ∷ imageLength image ∷ notSuited s image ∷ fontLength (s .look) font ∷ shortStrip (s .look) strip ∷ shortFrame frame ∷ notFitted s image ∷ []
 
--- then by the fetched places, as fetching does, and 15 by the fetched bytes, as drawing does
+-- then 15, by the fetched bytes, as drawing does
 abbrev pub showFetched : Settings → List ℕ → List Check
-showFetched s image = fetchPlaces s (length image) ++ drawBytes (s .look) (fetchedByte s image)
+showFetched s image = drawBytes (s .look) (fetchedByte s image)
 
 -- the whole order, over what is lent, and what is told
 abbrev pub showOrder : Settings → List ℕ → List ℕ → List ℕ → List ℕ → List Check

@@ -24,9 +24,11 @@ fn length_answer(
     answer = settings::pins_above(answer, look);
     answer = settings::fast_rate(answer, settings);
     answer = settings::image_length(answer, image);
+    answer = settings::not_suited(answer, settings, image);
     answer = settings::font_length(answer, look, font);
     answer = settings::short_strip(answer, look, strip);
-    settings::short_frame(answer, frame)
+    answer = settings::short_frame(answer, frame);
+    strip::not_fitted(answer, settings, image)
 }
 
 // The work, where no length is refused: the bytes are fetched into an array here, and stored in the strip once drawing them is not refused.

@@ -3,5 +3,5 @@ pub mod Masks
 pub mod Borders
 pub mod Widths
 pub mod Names
-pub mod Images
+pub mod Banks
 pub mod Unique

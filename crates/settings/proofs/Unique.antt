@@ -5,6 +5,7 @@ use Rattle.promises.specs.Fixes.{Operation, Fixes, whole, one-tells}
 use Rattle.answer.proofs.Answers.{one-answer}
 use Rattle.settings.proofs.video_mode as video-mode
 use Rattle.settings.proofs.offset as offset
+use Rattle.settings.proofs.bank_bit as bank-bit
 use Rattle.settings.proofs.graphics as graphics
 use Rattle.settings.proofs.external as external
 use Rattle.settings.proofs.gm as gm
@@ -18,6 +19,7 @@ use Rattle.settings.proofs.pins_above as pins-above
 use Rattle.settings.proofs.text_back as text-back
 use Rattle.settings.proofs.fast_rate as fast-rate
 use Rattle.settings.proofs.image_length as image-length
+use Rattle.settings.proofs.not_suited as not-suited
 use Rattle.settings.proofs.font_length as font-length
 use Rattle.settings.proofs.short_strip as short-strip
 use Rattle.settings.proofs.short_frame as short-frame
@@ -37,6 +39,16 @@ offset-op = record { key = offset.Key.name; T = offset.ended; clauses = λ M. of
 
 pub offset-fixes : Fixes offset-op
 offset-fixes = record {
+  takes-all = λ w κs a g. id⊢ (w .𝓤) (emp (w .𝓤));
+  tells = λ w κs a g z e. one-tells (w .𝓤) _;
+  one-outcome = λ κs a z z′ ws ws′ p q. (p ∙ sym q, refl);
+}
+
+abbrev pub bank-bit-op : Operation
+bank-bit-op = record { key = bank-bit.Key.name; T = bank-bit.ended; clauses = λ M. bank-bit.clauses; Says = bank-bit.Reads.Learnt; O = _; seen = λ κs. whole }
+
+pub bank-bit-fixes : Fixes bank-bit-op
+bank-bit-fixes = record {
   takes-all = λ w κs a g. id⊢ (w .𝓤) (emp (w .𝓤));
   tells = λ w κs a g z e. one-tells (w .𝓤) _;
   one-outcome = λ κs a z z′ ws ws′ p q. (p ∙ sym q, refl);
@@ -167,6 +179,16 @@ image-length-op = record { key = image-length.Key.name; T = image-length.ended; 
 
 pub image-length-fixes : Fixes image-length-op
 image-length-fixes = record {
+  takes-all = λ w κs a g. id⊢ (w .𝓤) (emp (w .𝓤));
+  tells = λ w κs a g z e. one-tells (w .𝓤) _;
+  one-outcome = λ κs a z z′ ws ws′ p q. (one-answer p q, refl);
+}
+
+abbrev pub not-suited-op : Operation
+not-suited-op = record { key = not-suited.Key.name; T = not-suited.ended; clauses = λ M. not-suited.clauses; Says = not-suited.Reads.Learnt; O = _; seen = λ κs. whole }
+
+pub not-suited-fixes : Fixes not-suited-op
+not-suited-fixes = record {
   takes-all = λ w κs a g. id⊢ (w .𝓤) (emp (w .𝓤));
   tells = λ w κs a g z e. one-tells (w .𝓤) _;
   one-outcome = λ κs a z z′ ws ws′ p q. (one-answer p q, refl);

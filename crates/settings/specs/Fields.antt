@@ -41,6 +41,10 @@ offset s = bits (s .word) 3 7
 abbrev pub fast : Settings → Bool
 fast s = eqb (bits (s .word) 12 1) 1
 
+-- M1, M0
+abbrev pub memory : Settings → ℕ
+memory s = bits (s .word) 13 2
+
 -- The pin byte: bit 5 is A/G, then INT/EXT, GM2, GM1, GM0, and CSS in bit 0.
 
 -- A/G = 1

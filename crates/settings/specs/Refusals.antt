@@ -1,4 +1,4 @@
--- Document 01's table of numbers, 1 and 3 to 8: when each is given, from the settings and the lengths of what is lent. 2 is no longer given (CR 5).
+-- Document 01's table of numbers, 1 and 3 to 8, and 16 of document 02: when each is given, from the settings and the lengths of what is lent. 2 is no longer given (CR 5).
 use Prim.Native.Nat.{ℕ, _*_}
 use mathlib.Core.Bool.{Bool, not, _&&_, _||_}
 use lib.Dec.{ltb, eqb}
@@ -8,6 +8,7 @@ use Rattle.settings.specs.declared.Look.{Look}
 use Rattle.settings.specs.declared.Settings.{Settings}
 use Rattle.settings.specs.Fields.{fast, graphics}
 use Rattle.settings.specs.Modes.{width, fontSize}
+use Rattle.settings.specs.Banks.{suited}
 
 -- the lengths that an image may have
 unfoldable pub imageFits : ℕ → Bool
@@ -35,6 +36,10 @@ fastRate s = check (fast s) (refused 4)
 -- 5: image length not 4,096, 8,192, 16,384, 32,768 or 65,536
 abbrev pub imageLength : ℕ → Check
 imageLength n = check (not (imageFits n)) (refused 5)
+
+-- 16: image length not suited to M
+abbrev pub notSuited : Settings → ℕ → Check
+notSuited s n = check (not (suited s n)) (refused 16)
 
 -- 6: A/G = 0 and font length not the one asked for
 abbrev pub fontLength : Look → ℕ → Check

@@ -5,8 +5,9 @@ ghost use mathlib.Core.Path.{_≡_};
 ghost use Prim.Native.Nat.{_<_};
 ghost use Rattle.promises.specs.Order.{after};
 ghost use Rattle.answer.specs.Told.{toldOf};
-ghost use Rattle.settings.specs.Fields.{bits, videoMode, offset, fast, graphics, external, gm, css};
-ghost use Rattle.settings.specs.Refusals.{imageFits, stripLength, pinsAbove, textBack, fastRate, imageLength, fontLength, shortStrip, shortFrame};
+ghost use Rattle.settings.specs.Fields.{bits, videoMode, offset, fast, memory, graphics, external, gm, css};
+ghost use Rattle.settings.specs.Banks.{bankBit, fullSize, suited};
+ghost use Rattle.settings.specs.Refusals.{imageFits, stripLength, pinsAbove, textBack, fastRate, imageLength, notSuited, fontLength, shortStrip, shortFrame};
 ghost use Rattle.settings.specs.Modes.{width, dots, border, fontSize, modeName, named};
 
 // The look of a frame: the pin byte, fixed for a frame.
@@ -72,6 +73,35 @@ fn fast(settings: Settings) -> bool
     ensures { λ r. ⌜ r ≡ fast settings ⌝ }
 {
     field(settings.word, 12, 1) == 1
+}
+
+// M1, M0, the memory's size.
+fn memory(settings: Settings) -> usize
+    ensures { λ r. ⌜ r ≡ memory settings ⌝ }
+{
+    field(settings.word, 13, 2) as usize
+}
+
+// Which bit of an address is its bank. With M1 set it is one past the last, which no address has.
+pub fn bank_bit(settings: Settings) -> usize
+    ensures { λ r. ⌜ r ≡ bankBit settings ⌝ }
+{
+    match memory(settings) {
+        0 => 12,
+        1 => 14,
+        _ => 16,
+    }
+}
+
+// How long an image with every bank is.
+fn full_size(settings: Settings) -> usize
+    ensures { λ r. ⌜ r ≡ fullSize settings ⌝ }
+{
+    match memory(settings) {
+        0 => 8192,
+        1 => 32768,
+        _ => 65536,
+    }
 }
 
 // A/G: whether the mode is graphics.
@@ -206,6 +236,25 @@ pub fn image_length(answer: Answer, length: usize) -> Answer
         answer,
         !image_fits(length),
         Answer::Unfit(Unfit::ImageLength),
+    )
+}
+
+// Whether an image's length is suited to M1 and M0.
+fn suits(settings: Settings, length: usize) -> bool
+    ensures { λ r. ⌜ r ≡ suited settings length ⌝ }
+{
+    let bank = 1 << bank_bit(settings);
+    (length == bank) | (length == full_size(settings))
+}
+
+// 16: image length not suited to M.
+pub fn not_suited(answer: Answer, settings: Settings, length: usize) -> Answer
+    ensures { λ r. ⌜ toldOf r ≡ after (notSuited settings length) (toldOf answer) ⌝ }
+{
+    answer::check(
+        answer,
+        !suits(settings, length),
+        Answer::Unfit(Unfit::NotSuited),
     )
 }
 

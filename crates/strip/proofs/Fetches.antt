@@ -9,27 +9,30 @@ use Rattle.promises.specs.Told.{Told, done}
 use Rattle.promises.specs.Order.{firstOf}
 use Rattle.promises.specs.Written.{written, Filled}
 use Rattle.promises.proofs.Orders.{done-when, passing}
-use Rattle.promises.proofs.Later.{first-refuses, first-done}
 use Rattle.promises.proofs.Fills.{filled-written, length-written, leaves-done, leaves-refused, leaves-long}
 use Rattle.settings.specs.declared.Settings.{Settings}
-use Rattle.settings.specs.Refusals.{imageFits, stripLength}
-use Rattle.strip.specs.Fetch.{fetchLengths, fetchPlaces, fetchTold, fetchedByte, stripAfter}
+use Rattle.settings.specs.Banks.{suited}
+use Rattle.settings.specs.Refusals.{stripLength}
+use Rattle.strip.specs.Fetch.{fetchOrder, fetchTold, fetchedByte, stripAfter}
+use Rattle.strip.specs.Steps.{Fitted}
+use Rattle.strip.proofs.Banks.{all-fitted}
 
--- what is told of the lengths alone
-abbrev pub fetchLengthTold : Settings → ℕ → ℕ → Told
-fetchLengthTold s image strip = firstOf (fetchLengths s image strip) (done (stripLength (s .look)))
+-- where nothing is refused, the image's length is suited to M, the strip is long enough, and every bank that is fetched from is fitted
+pub record Fits (s : Settings) (image strip : ℕ) : Type 0 where
+  pub image-suits : suited s image ≡ true
+  pub strip-long : stripLength (s .look) ≤ strip
+  pub banks : Fitted s image
 
--- where no length is refused, the image has one of the lengths, and the strip is long enough
-pub lengths-fit : (s : Settings) (image strip : ℕ) → fetchLengthTold s image strip .number ≡ 0 → (imageFits image ≡ true) × (stripLength (s .look) ≤ strip)
-lengths-fit s image strip e =
-    let n = passing (5 ∷ 7 ∷ []) (fetchLengths s image strip) (done-when (done (stripLength (s .look))) refl (fetchLengths s image strip) tt .0 e) in
-    (not-false _ (n .0), ltb-false _ _ (n .1 .0))
+pub order-fits : (s : Settings) (image strip : ℕ) → firstOf (fetchOrder s image strip) (done (stripLength (s .look))) .number ≡ 0 → Fits s image strip
+order-fits s image strip e =
+    let n = passing (16 ∷ 7 ∷ 17 ∷ []) (fetchOrder s image strip) (done-when (done (stripLength (s .look))) refl (fetchOrder s image strip) tt .0 e) in
+    record { image-suits = not-false _ (n .0); strip-long = ltb-false _ _ (n .1 .0); banks = all-fitted s image (ltb-false _ _ (n .1 .1 .0)) }
 
 module _ (s : Settings) (image strip : List ℕ) where
   -- an accepted call
-  pub accepted : fetchTold s image strip .number ≡ 0 → (imageFits (length image) ≡ true) × (stripLength (s .look) ≤ length strip)
+  pub accepted : fetchTold s image strip .number ≡ 0 → Fits s (length image) (length strip)
   unfolding fetchTold
-  accepted e = lengths-fit s (length image) (length strip) (first-done (done (stripLength (s .look))) refl (fetchLengths s (length image) (length strip)) (fetchPlaces s (length image)) e)
+  accepted e = order-fits s (length image) (length strip) e
 
   -- the strip after an accepted call, and after a refused one
   pub strip-done : fetchTold s image strip .number ≡ 0 → stripAfter s image strip ≡ written (fetchedByte s image) (stripLength (s .look)) strip
@@ -45,17 +48,18 @@ module _ (s : Settings) (image strip : List ℕ) where
   unfolding stripAfter
   strip-same-length = leaves-long (fetchTold s image strip) _ strip (length-written (fetchedByte s image) (stripLength (s .look)) strip)
 
-  -- where a length is refused, that is told, and the strip stays
-  module _ {t : Told} (told : t ≡ fetchLengthTold s (length image) (length strip)) where
-    pub length-refused : (t .number ≡ 0 → ⊥) → (t ≡ fetchTold s image strip) × (strip ≡ stripAfter s image strip)
+  -- where the order refuses, that is told, and the strip stays
+  module _ {t : Told} (told : t ≡ firstOf (fetchOrder s (length image) (length strip)) (done (stripLength (s .look)))) where
+    as-told : t ≡ fetchTold s image strip
     unfolding fetchTold
-    length-refused h =
-        let e : t ≡ fetchTold s image strip = told ∙ sym (first-refuses (done (stripLength (s .look))) refl (fetchLengths s (length image) (length strip)) (fetchPlaces s (length image)) (λ z. h (rw told z))) in
-        (e, sym (strip-refused (λ z. h (rw e z))))
+    as-told = told
 
-    -- and where none is, it is done with the bytes that are fetched
+    pub kept : (t .number ≡ 0 → ⊥) → (t ≡ fetchTold s image strip) × (strip ≡ stripAfter s image strip)
+    kept h = (as-told, sym (strip-refused (λ z. h (rw as-told z))))
+
+    -- and where it does not, everything fits, and it is done with the bytes that are fetched
+    pub all-fits : t .number ≡ 0 → Fits s (length image) (length strip)
+    all-fits z = accepted (rw as-told at z)
+
     pub all-fetched : {new : List ℕ} → t .number ≡ 0 → Filled (fetchedByte s image) 0 (stripLength (s .look)) strip new → (t ≡ fetchTold s image strip) × (new ≡ stripAfter s image strip)
-    unfolding fetchTold
-    all-fetched {new} z f =
-        let d = rw told at z in
-        (told, filled-written (lengths-fit s (length image) (length strip) d .1) f ∙ sym (strip-done d))
+    all-fetched {new} z f = (as-told, filled-written (all-fits z .strip-long) f ∙ sym (strip-done (rw as-told at z)))

@@ -1,6 +1,7 @@
 -- The laws of fetching, and that the contract fixes its outcome.
 pub mod Places
 pub mod Walks
+pub mod Banks
 pub mod Fetches
 pub mod Windows
 pub mod Unique

@@ -1,9 +1,20 @@
 -- Every public operation of `strip`: its contract, as the source has it, takes every input and allows one outcome.
-use mathlib.Core.Path.{sym, _∙_}
+use mathlib.Core.Path.{refl, sym, _∙_}
 use base.Logic.{emp, id⊢}
-use Rattle.promises.specs.Fixes.{Operation, Fixes, whole, two-tell}
+use Rattle.promises.specs.Fixes.{Operation, Fixes, whole, one-tells, two-tell}
 use Rattle.answer.proofs.Answers.{one-answer}
+use Rattle.strip.proofs.not_fitted as not-fitted
 use Rattle.strip.proofs.fetch as fetch
+
+abbrev pub not-fitted-op : Operation
+not-fitted-op = record { key = not-fitted.Key.name; T = not-fitted.ended; clauses = λ M. not-fitted.clauses; Says = not-fitted.Reads.Learnt; O = _; seen = λ κs. whole }
+
+pub not-fitted-fixes : Fixes not-fitted-op
+not-fitted-fixes = record {
+  takes-all = λ w κs a g. id⊢ (w .𝓤) (emp (w .𝓤));
+  tells = λ w κs a g z e. one-tells (w .𝓤) _;
+  one-outcome = λ κs a z z′ ws ws′ p q. (one-answer p q, refl);
+}
 
 abbrev pub fetch-op : Operation
 fetch-op = record { key = fetch.Key.name; T = fetch.ended; clauses = λ M. fetch.clauses; Says = fetch.Reads.Learnt; O = _; seen = λ κs. whole }

@@ -10,13 +10,13 @@ use native.Mathlib.Omega.{arith}
 use lib.Arith.{digits-div, digits-mod}
 use borrow.Author.Tests.{eqb-true}
 use lib.Dec.{eqb}
-use lib.ListN.{length, getD}
+use lib.ListN.{getD}
 use Rattle.promises.specs.Written.{Filled}
 use Rattle.promises.proofs.Choices.{both-pass}
 use Rattle.promises.proofs.Fills.{none, by, join, upto}
 use Rattle.settings.specs.declared.Settings.{Settings}
 use Rattle.settings.specs.Modes.{width}
-use Rattle.settings.specs.Refusals.{imageFits}
+use Rattle.settings.specs.Banks.{imagePlace, missing}
 use Rattle.settings.proofs.Widths.{width-cases}
 use Rattle.counter.specs.declared.Counter.{Counter}
 use Rattle.counter.specs.Counter.{fall, carry, cleared, clearingCounts, bytesOn, start, lineStart, addressOf}
@@ -24,26 +24,27 @@ use Rattle.counter.specs.Steps.{clearsB4, endsCount}
 use Rattle.counter.proofs.Walks.{bytesOn-on, lineStart-none}
 use Rattle.counter.proofs.Runs.{Aligned, in-run, run-end, runs-aligned}
 use Rattle.counter.proofs.Ends.{plain-end, row-end}
-use Rattle.strip.specs.Fetch.{imagePlace, byteOn, fetchPlace, fetchedByte}
+use Rattle.strip.specs.Fetch.{fetchAddress, byteOn, fetchedByte}
+use Rattle.strip.specs.Steps.{LineFitted, Fitted}
 use Rattle.strip.proofs.Places.{place-moves}
 
-module _ (s : Settings) (image : List ℕ) (fits : imageFits (length image) ≡ true) (from : Counter) (al : Aligned from) where
+module _ (s : Settings) (image : List ℕ) (from : Counter) (al : Aligned from) where
   -- byte j of a run lies j past the run's place
-  in-place : (c : Counter) → Aligned c → (j : ℕ) → j < 16 → getD image (imagePlace s (length image) (c .address) + j) 0 ≡ byteOn s image c j
+  in-place : (c : Counter) → Aligned c → (j : ℕ) → j < 16 → getD image (imagePlace s (c .address) + j) 0 ≡ byteOn s image c j
   in-place c a j h =
-      ap (λ (p : ℕ). getD image p 0) (sym (place-moves s (length image) fits c a j h))
-      ∙ sym (ap (λ (d : Counter). getD image (imagePlace s (length image) (d .address)) 0) (in-run s c a j h))
+      ap (λ (p : ℕ). getD image p 0) (sym (place-moves s c a j h))
+      ∙ sym (ap (λ (d : Counter). getD image (imagePlace s (d .address)) 0) (in-run s c a j h))
 
-  run-byte : (n j : ℕ) → j < 16 → getD image (imagePlace s (length image) (bytesOn s (16 * n) from .address) + j) 0 ≡ byteOn s image from (16 * n + j)
+  run-byte : (n j : ℕ) → j < 16 → getD image (imagePlace s (bytesOn s (16 * n) from .address) + j) 0 ≡ byteOn s image from (16 * n + j)
   run-byte n j h =
       in-place (bytesOn s (16 * n) from) (runs-aligned s from al n) j h
-      ∙ sym (ap (λ (d : Counter). getD image (imagePlace s (length image) (d .address)) 0) (bytesOn-on s (16 * n) j from))
+      ∙ sym (ap (λ (d : Counter). getD image (imagePlace s (d .address)) 0) (bytesOn-on s (16 * n) j from))
 
   abbrev lineBytes : ℕ → ℕ → ℕ
   lineBytes at k = byteOn s image from (k - at)
 
   -- one run more
-  pub line-more : (at n : ℕ) {p : ℕ} {x y z : List ℕ} → p ≡ imagePlace s (length image) (bytesOn s (16 * n) from .address)
+  pub line-more : (at n : ℕ) {p : ℕ} {x y z : List ℕ} → p ≡ imagePlace s (bytesOn s (16 * n) from .address)
       → Filled (lineBytes at) at (at + 16 * n) x y
       → Filled (λ k. getD image (p + (k - (at + 16 * n))) 0) (at + 16 * n) (at + 16 * n + 16) y z
       → Filled (lineBytes at) at (at + 16 * (n + 1)) x z
@@ -55,7 +56,7 @@ module _ (s : Settings) (image : List ℕ) (fits : imageFits (length image) ≡ 
           rw e (run-byte n (k - (at + 16 * n)) (omega arith) ∙ ap (byteOn s image from) d)
 
   -- a line of one run
-  pub one-run : (at : ℕ) {p : ℕ} {y z : List ℕ} → p ≡ imagePlace s (length image) (from .address)
+  pub one-run : (at : ℕ) {p : ℕ} {y z : List ℕ} → p ≡ imagePlace s (from .address)
       → Filled (λ k. getD image (p + (k - at)) 0) at (at + 16) y z → Filled (lineBytes at) at (at + 16) y z
   one-run at e g = by (λ k h l. rw e (in-place from al (k - at) (omega arith))) g
 
@@ -68,6 +69,11 @@ run-more s from al n {c} {d} p q =
 -- W is a number of whole runs, one or two
 pub whole-runs : (s : Settings) → (16 * (width (s .look) / 16) ≡ width (s .look)) × (width (s .look) / 16 ≤ 2)
 whole-runs s = ⊎-elim (λ e. rw e (omega arith, omega arith)) (λ e. rw e (omega arith, omega arith)) (width-cases (s .look))
+
+-- byte j of line n is fetch n × W + j
+pub address-of-line : (s : Settings) (n j : ℕ) → j < width (s .look) → fetchAddress s (n * width (s .look) + j) ≡ bytesOn s j (lineStart s n) .address
+unfolding addressOf fetchAddress
+address-of-line s n j h = rw (digits-div n h, digits-mod n h)
 
 module _ (s : Settings) (image : List ℕ) where
   abbrev w : ℕ
@@ -87,10 +93,12 @@ module _ (s : Settings) (image : List ℕ) where
   pub line-within : (n : ℕ) → n < 192 → n * w + w ≤ 192 * w
   line-within n h = rw (← suc-mul n w) (mul-le-mul-right w h)
 
-  -- byte j of line n is fetch n × W + j
+  -- where the banks of a frame are fitted, those of each line are
+  pub line-fitted : (size n : ℕ) → Fitted s size → n < 192 → LineFitted s size (lineStart s n) w
+  line-fitted size n f h j l = ap (missing s size) (sym (address-of-line s n j l)) ∙ f (n * w + j) (omega (arith, line-within n h))
+
   byte-of-line : (n j : ℕ) → j < w → byteOn s image (lineStart s n) j ≡ fetchedByte s image (n * w + j)
-  unfolding addressOf fetchPlace
-  byte-of-line n j h = rw (digits-div n h, digits-mod n h)
+  byte-of-line n j h = ap (λ (a : ℕ). getD image (imagePlace s a) 0) (sym (address-of-line s n j h))
 
   -- one line more: `wide` and its runs stand for W
   pub frame-more : (n : ℕ) {wide : ℕ} {c : Counter} {x y z : List ℕ} → wide ≡ w → c ≡ lineStart s n

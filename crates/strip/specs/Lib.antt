@@ -1,2 +1,3 @@
--- What fetching answers and leaves.
+-- What fetching answers and leaves, and what the code behind it goes by.
 pub mod Fetch
+pub mod Steps

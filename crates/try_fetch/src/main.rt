@@ -1,4 +1,4 @@
-// Tries fetching: the addresses of document 01's figures, each refusal, buffers of all lengths, and whole strips by their sums; then rule 2.
+// Tries fetching: the addresses of document 01's figures, each refusal, buffers of all lengths, and whole strips by their sums; then rule 2, and the banks of an image.
 // Prints a line for each.
 use counter::Counter;
 use settings::Settings;
@@ -148,7 +148,7 @@ fn fetch(word: usize, pins: usize, rule: usize, image: usize, strip: usize, byte
     one(b", strip kept from #\n", unchanged_from(&buffer));
 }
 
-// The refusals of fetching in their order, each with all later conditions holding too, or alone.
+// The refusals of fetching in their order, but for 16 and 17, each with later conditions holding too, or alone.
 fn refusals(image: &[u8]) {
     fetch(0x1000, 0x40, 1, 65535, 0, image);
     fetch(0x5000, 0x40, 1, 65536, 8192, image);
@@ -162,7 +162,7 @@ fn refusals(image: &[u8]) {
     fetch(0x4000, 0x20, 1, 65536, 0, image);
 }
 
-// Image lengths.
+// Image lengths: none of the five, then some of them with M1, M0 that they are suited to.
 fn images(image: &[u8]) {
     fetch(0x0000, 0x20, 1, 4095, 8192, image);
     fetch(0x0000, 0x20, 1, 4097, 8192, image);
@@ -174,7 +174,7 @@ fn images(image: &[u8]) {
     fetch(0x2000, 0x20, 1, 32768, 8192, image);
 }
 
-// Strip lengths, one byte short and just right, of external text too, which fetching gives with bytes of 128 or more; INT/EXT with A/G = 1; M, P, R0 and TY.
+// Strip lengths, one byte short and just right, of external text too, which fetching gives with bytes of 128 or more; INT/EXT with A/G = 1; P, R0 and TY.
 fn strips(image: &[u8]) {
     fetch(0x4000, 0x20, 1, 65536, 3071, image);
     fetch(0x4000, 0x20, 1, 65536, 3072, image);
@@ -234,15 +234,112 @@ fn sums(rule: usize, bytes: &[u8]) {
     modes(0x4000, 0x2E, rule, 65536, bytes);
 }
 
-// Starts 512 bytes before FFFF is passed, and before the end of an image of each other length.
+// Starts 512 bytes before FFFF is passed, before a bank that is not fitted, before the end of two banks, and before the second.
 fn ends(rule: usize, bytes: &[u8]) {
     modes(0x43F8, 0x20, rule, 65536, bytes);
     modes(0x43F8, 0x2E, rule, 65536, bytes);
-    modes(0x03F8, 0x2E, rule, 4096, bytes);
+    modes(0x03F8, 0x2E, rule, 8192, bytes);
     modes(0x0038, 0x2E, rule, 4096, bytes);
     modes(0x0078, 0x20, rule, 8192, bytes);
-    modes(0x20F8, 0x2E, rule, 16384, bytes);
+    modes(0x20F8, 0x2E, rule, 32768, bytes);
     modes(0x21F8, 0x00, rule, 32768, bytes);
+}
+
+// == The banks of an image, by M1, M0.
+
+// Each M1, M0 with the lengths that are not suited to it, and 11 with the one that is.
+fn suited(image: &[u8]) {
+    fetch(0x0000, 0x20, 1, 16384, 8192, image);
+    fetch(0x0000, 0x20, 1, 32768, 8192, image);
+    fetch(0x0000, 0x20, 1, 65536, 8192, image);
+    fetch(0x2000, 0x20, 1, 4096, 8192, image);
+    fetch(0x2000, 0x20, 1, 8192, 8192, image);
+    fetch(0x2000, 0x20, 1, 65536, 8192, image);
+    fetch(0x4000, 0x20, 1, 4096, 8192, image);
+    fetch(0x4000, 0x20, 1, 8192, 8192, image);
+    fetch(0x4000, 0x20, 1, 16384, 8192, image);
+    fetch(0x4000, 0x20, 1, 32768, 8192, image);
+    fetch(0x6000, 0x20, 1, 4096, 8192, image);
+    fetch(0x6000, 0x20, 1, 8192, 8192, image);
+    fetch(0x6000, 0x20, 1, 16384, 8192, image);
+    fetch(0x6000, 0x20, 1, 32768, 8192, image);
+    fetch(0x6000, 0x20, 1, 65536, 8192, image);
+}
+
+// What comes before 16, then 16 before 7, and 7 before 17.
+fn orders(image: &[u8]) {
+    fetch(0x0000, 0x40, 1, 65536, 8192, image);
+    fetch(0x1000, 0x20, 1, 65536, 8192, image);
+    fetch(0x2000, 0x20, 1, 65535, 8192, image);
+    fetch(0x6000, 0x20, 1, 12288, 8192, image);
+    fetch(0x0000, 0x20, 1, 65536, 0, image);
+    fetch(0x2000, 0x00, 1, 8192, 6143, image);
+    fetch(0x0040, 0x20, 1, 4096, 3071, image);
+    fetch(0x2100, 0x00, 1, 16384, 6143, image);
+}
+
+// Windows that begin in a bank that is not fitted, that come to one on a later line, and that do so under rule 2 only.
+fn not_fitted(image: &[u8]) {
+    fetch(0x0040, 0x20, 1, 4096, 3072, image);
+    fetch(0x03FE, 0x2E, 1, 4096, 8192, image);
+    fetch(0x2100, 0x00, 1, 16384, 6144, image);
+    fetch(0x23FE, 0x2E, 1, 16384, 8192, image);
+    fetch(0x0006, 0x2E, 1, 4096, 8192, image);
+    fetch(0x0039, 0x20, 1, 4096, 8192, image);
+    fetch(0x20AE, 0x2E, 1, 16384, 8192, image);
+    fetch(0x22FD, 0x2A, 1, 16384, 8192, image);
+    fetch(0x20AE, 0x2E, 2, 16384, 8192, image);
+    fetch(0x003A, 0x20, 1, 4096, 8192, image);
+    fetch(0x003A, 0x20, 2, 4096, 8192, image);
+    fetch(0x20FE, 0x20, 1, 16384, 8192, image);
+    fetch(0x20FE, 0x20, 2, 16384, 8192, image);
+}
+
+// Windows that have the fitted bank alone, then those above with both banks fitted.
+fn fitted(bytes: &[u8]) {
+    strip_sum(0x00A1, 0x20, 1, 4096, bytes);
+    strip_sum(0x20A6, 0x2E, 1, 16384, bytes);
+    strip_sum(0x220E, 0x2E, 1, 16384, bytes);
+    strip_sum(0x0040, 0x20, 1, 8192, bytes);
+    strip_sum(0x2100, 0x00, 1, 32768, bytes);
+    strip_sum(0x0006, 0x2E, 1, 8192, bytes);
+    strip_sum(0x0039, 0x20, 1, 8192, bytes);
+    strip_sum(0x20AE, 0x2E, 1, 32768, bytes);
+    strip_sum(0x22FD, 0x2A, 1, 32768, bytes);
+    strip_sum(0x003A, 0x20, 2, 8192, bytes);
+    strip_sum(0x20FE, 0x20, 2, 32768, bytes);
+}
+
+// Past FFFF, M1, M0 = 11 as 10, then sums and refusals again with P, R0 and TY set.
+fn bits(bytes: &[u8]) {
+    strip_sum(0x23FE, 0x2E, 1, 32768, bytes);
+    strip_sum(0x23F9, 0x20, 1, 32768, bytes);
+    strip_sum(0x63FE, 0x2E, 1, 65536, bytes);
+    strip_sum(0x63F9, 0x20, 1, 65536, bytes);
+    strip_sum(0x8C06, 0x2E, 1, 8192, bytes);
+    strip_sum(0xAFFE, 0x2E, 1, 32768, bytes);
+    strip_sum(0xCFFE, 0x2E, 1, 65536, bytes);
+    strip_sum(0x8C39, 0x20, 1, 4096, bytes);
+    strip_sum(0x8C00, 0x20, 1, 65536, bytes);
+}
+
+// All of them: rule 1, rule 2, and the banks.
+fn fetches(low: &[u8], high: &[u8], varied: &[u8]) {
+    addresses(low, high);
+    refusals(low);
+    images(low);
+    strips(low);
+    sums(1, varied);
+    ends(1, varied);
+    rule_2(low, high);
+    strips_2(low);
+    sums(2, varied);
+    ends(2, varied);
+    suited(low);
+    orders(low);
+    not_fitted(low);
+    fitted(varied);
+    bits(varied);
 }
 
 // Two images that tell the low and the high bytes of their addresses, and one in which no two rows or columns of a chip are alike.
@@ -253,14 +350,5 @@ fn main() {
     lay(&mut low, 0, 1, 0);
     lay(&mut high, 0, 0, 256);
     lay(&mut varied, 0, 1, 61);
-    addresses(&low, &high);
-    refusals(&low);
-    images(&low);
-    strips(&low);
-    sums(1, &varied);
-    ends(1, &varied);
-    rule_2(&low, &high);
-    strips_2(&low);
-    sums(2, &varied);
-    ends(2, &varied);
+    fetches(&low, &high, &varied);
 }

@@ -90,6 +90,8 @@ fn after() {
         b"deed=K\npins=10\nwrites=0\na=b\n",
         Answer::At(Spot::NotValid, 5791),
     );
+    report_after(lettered, Answer::Unfit(Unfit::NotSuited));
+    report_after(lettered, Answer::At(Spot::NotFitted, 1536));
     report_after(b"deed=K\npins=20\nrule=2\nwrites=0\na=b\n", Answer::Done(0));
     report_after(
         b"deed=K\npins=40\nwrites=0\na=b\n",

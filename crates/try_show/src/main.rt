@@ -1,4 +1,4 @@
-// Tries both at once: each refusal, buffers of all lengths, bytes that are not valid, and pairs of modes, under rule 2 too, by the sums of strip and frame.
+// Tries both at once: each refusal, buffers of all lengths, banks that are not fitted, bytes that are not valid, and pairs of modes, under rule 2 too, by the sums of strip and frame.
 // Prints a line for each call.
 use answer::Answer;
 use trial::answered;
@@ -90,32 +90,55 @@ fn external_refusals(image: &[u8], font: &[u8]) {
     show(0x4000, 0x1F, 65536, 3072, 8192, 50000, image, font);
 }
 
-// == Bytes that external text does not show.
-
-// Both at once of an image of letters that has another byte at two places.
-fn marred(word: usize, pins: usize, byte: u8, first: usize, second: usize, font: &[u8])
-    requires { ⌜ (first < 4096) × (second < 4096) ⌝ }
-{
-    let mut image = [0u8; 4096];
-    lay(&mut image, b'A', 0, 0);
-    image[first] = byte;
-    image[second] = byte;
-    form(b"byte % at # and #, ", &[byte as usize, first, second]);
-    show(word, pins, 4096, font.len(), 6144, 49152, &image, font);
+// Those of 16 and 17: 16 before 6 and alone, 7 and 8 before 17, 17 before 15 and alone, and both banks fitted.
+fn bank_refusals(image: &[u8], font: &[u8]) {
+    show(0x0000, 0x00, 65536, 0, 0, 0, image, font);
+    show(0x6000, 0x20, 32768, 0, 8192, 50000, image, font);
+    show(0x0040, 0x10, 4096, 3072, 6143, 0, image, font);
+    show(0x0006, 0x10, 4096, 3072, 6144, 49151, image, font);
+    show(0x0006, 0x10, 4096, 3072, 6144, 49152, image, font);
+    show(0x0040, 0x00, 4096, 1152, 8192, 50000, image, font);
+    show(0x0006, 0x2E, 4096, 0, 8192, 50000, image, font);
+    show(0x0006, 0x2E, 8192, 0, 8192, 50000, image, font);
 }
 
-// In the window, where the first fetch is told, and beside it; with windows elsewhere and one that comes round; and in internal text.
+// == Bytes that external text does not show.
+
+// Both at once of an image of letters, as long as told, that has another byte at two places.
+fn marred(
+    word: usize,
+    pins: usize,
+    image: usize,
+    byte: u8,
+    first: usize,
+    second: usize,
+    font: &[u8],
+)
+    requires { ⌜ (first < 8192) × (second < 8192) ⌝ }
+{
+    let mut letters = [0u8; 8192];
+    lay(&mut letters, b'A', 0, 0);
+    letters[first] = byte;
+    letters[second] = byte;
+    form(b"byte % at # and #, ", &[byte as usize, first, second]);
+    show(word, pins, image, font.len(), 6144, 49152, &letters, font);
+}
+
+// In the window, where the first fetch is told, and beside it; with windows elsewhere and one that comes round.
+// Then before a bank that is not fitted, and beside such a window; and in internal text.
 fn not_valid(own: &[u8], rom: &[u8]) {
-    marred(0x0000, 0x10, 0x80, 0, 511, rom);
-    marred(0x0000, 0x10, 0xFF, 511, 31, rom);
-    marred(0x0000, 0x10, 0x80, 511, 511, rom);
-    marred(0x0000, 0x10, 0x80, 512, 4095, rom);
-    marred(0x0008, 0x10, 0x80, 511, 1024, rom);
-    marred(0x0008, 0x10, 0x80, 512, 511, rom);
-    marred(0x0006, 0x1F, 0x80, 2047, 2048, rom);
-    marred(0x003E, 0x10, 0x80, 0, 3583, rom);
-    marred(0x0000, 0x10, 0x7F, 0, 511, rom);
-    marred(0x0000, 0x00, 0x80, 0, 511, own);
+    marred(0x0000, 0x10, 4096, 0x80, 0, 511, rom);
+    marred(0x0000, 0x10, 4096, 0xFF, 511, 31, rom);
+    marred(0x0000, 0x10, 4096, 0x80, 511, 511, rom);
+    marred(0x0000, 0x10, 4096, 0x80, 512, 4095, rom);
+    marred(0x0008, 0x10, 4096, 0x80, 511, 1024, rom);
+    marred(0x0008, 0x10, 4096, 0x80, 512, 511, rom);
+    marred(0x0004, 0x1F, 4096, 0x80, 2047, 2048, rom);
+    marred(0x007E, 0x10, 8192, 0x80, 0, 7679, rom);
+    marred(0x0006, 0x1F, 4096, 0x80, 2047, 2048, rom);
+    marred(0x003E, 0x10, 4096, 0x80, 0, 3583, rom);
+    marred(0x0000, 0x10, 4096, 0x7F, 0, 511, rom);
+    marred(0x0000, 0x00, 4096, 0x80, 0, 511, own);
 }
 
 // == The ordinary pairs of modes.
@@ -155,12 +178,13 @@ fn pairs(image: &[u8], font: &[u8]) {
     pair(0x4006, 0x2E, 1, 6144, image, font);
 }
 
-// Under rule 2: two ordinary pairs, and two in which it counts at every line's end.
+// Under rule 2: two ordinary pairs, and three in which it counts at every line's end. In the last, of one bank, it comes to the other.
 fn pairs_2(image: &[u8], font: &[u8]) {
     pair(0x4000, 0x00, 2, 6144, image, font);
     pair(0x4001, 0x20, 2, 3072, image, font);
     pair(0x4000, 0x20, 2, 3072, image, font);
     pair(0x4006, 0x26, 2, 3072, image, font);
+    pair(0x003A, 0x20, 2, 3072, cut(image, 4096), font);
 }
 
 // All of them, by the internal font and the external character ROM.
@@ -168,6 +192,7 @@ fn shows(image: &[u8], letters: &[u8], font: &[u8]) {
     let own = cut(font, 1152);
     refusals(image, own);
     external_refusals(image, font);
+    bank_refusals(image, font);
     not_valid(own, font);
     pairs(image, own);
     pair(0x4000, 0x10, 1, 6144, letters, font);

@@ -15,13 +15,13 @@ rows-requires : tie.Need-rows-requires
 rows-requires c κs =
     let p = c .before .before in
     let b = start-of p in
-    (b .pre .0, b .pre .1, sym (p .ends-count .ensures) ∙ c .before .if1 .taken)
+    (b .pre .0, b .pre .1, b .pre .2, sym (p .ends-count .ensures) ∙ c .before .if1 .taken)
 
 lines-requires : tie.Need-lines-requires
 lines-requires c κs =
     let p = c .before .before in
     let b = start-of p in
-    (b .pre .0, b .pre .1, sym (p .ends-count .ensures) ∙ c .before .if1 .left)
+    (b .pre .0, b .pre .1, b .pre .2, sym (p .ends-count .ensures) ∙ c .before .if1 .left)
 
 same-length : tie.Need-same-length
 same-length c = search needs

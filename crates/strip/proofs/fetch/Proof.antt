@@ -1,14 +1,13 @@
 -- `strip::fetch` meets its contract.
 use mathlib.Core.Path.{_≡_, sym, _∙_}
 use denote.Ref.{now}
-use lib.ListN.{length}
 use Rattle.answer.specs.Told.{toldOf}
-use Rattle.strip.proofs.Fetches.{lengths-fit, length-refused, all-fetched}
+use Rattle.strip.proofs.Fetches.{kept, all-fits, all-fetched}
 use borrow.Author.Needs.{needs}
 use Rattle.strip.proofs.fetch.Statement.{statement}
 use Rattle.strip.proofs.fetch.Tie as tie
 
--- where the function starts, and that past the test no length is refused
+-- where the function starts, and that past the test nothing is refused
 abbrev start-of : tie.After-number → tie.Start
 start-of c = c .before .before .before .before
 
@@ -24,12 +23,13 @@ number-requires c κs = search needs
 returns : tie.Need-returns
 returns c =
     let b = start-of (c .before) in
-    length-refused (b .args .settings) (now (b .args .image)) (now (b .args .strip)) (c .before .before .length-answer .ensures) (λ z. c .if1 .taken (c .before .number .ensures ∙ z))
+    kept (b .args .settings) (now (b .args .image)) (now (b .args .strip)) (c .before .before .length-answer .ensures) (λ z. c .if1 .taken (c .before .number .ensures ∙ z))
 
 all-lines-requires : tie.Need-all-lines-requires
 all-lines-requires c κs =
     let b = start-of (c .before .before) in
-    lengths-fit (b .args .settings) (length (now (b .args .image))) (length (now (b .args .strip))) (rw (c .before .before .before .length-answer .ensures) at (passed (c .before)))
+    let f = all-fits (b .args .settings) (now (b .args .image)) (now (b .args .strip)) (c .before .before .before .length-answer .ensures) (passed (c .before)) in
+    (f .image-suits, f .strip-long, f .banks)
 
 same-length : tie.Need-same-length
 same-length c = search needs

@@ -1,11 +1,14 @@
 -- `strip::line` meets its contract.
 use Prim.Native.Nat.{ℕ, _+_, _-_, _*_, _≤_}
 use mathlib.Core.Path.{_≡_, sym}
+use mathlib.Core.Bool.{false}
 use native.Mathlib.Omega.{arith}
 use borrow.Author.Needs.{needs}
+use lib.ListN.{length}
 use denote.Ref.{now}
 use Rattle.promises.specs.Written.{Filled}
 use Rattle.promises.proofs.Fills.{none, upto}
+use Rattle.settings.specs.Banks.{missing}
 use Rattle.counter.specs.Counter.{bytesOn}
 use Rattle.counter.proofs.Walks.{bytesOn-none}
 use Rattle.counter.proofs.Runs.{Aligned, runs-aligned}
@@ -22,15 +25,18 @@ Inv-loop settings runs image strip₀ at size counter₀ n₀ strip counter n =
 abbrev μ-loop : tie.MeasureT-loop
 μ-loop settings runs image strip₀ at size counter₀ n₀ strip counter n = runs - n
 
--- each run starts aligned
+-- each run starts aligned, and its bank is fitted
 aligned : (c : tie.At-loop Inv-loop μ-loop) → Aligned (c .loop .counter)
 aligned c = rw (c .loop .inv .1) (runs-aligned _ _ (c .before .before .before .pre .1) (c .loop .n))
+
+fitted : (c : tie.In-loop Inv-loop μ-loop) → let a = c .before .before .before .before .args in missing (a .settings) (length (now (a .image))) (c .before .loop .counter .address) ≡ false
+fitted c = rw (c .before .loop .inv .1) (c .before .before .before .before .pre .4 (16 * c .before .loop .n) (omega arith))
 
 loop-holds : tie.Need-loop-holds Inv-loop μ-loop
 loop-holds c = (search needs, sym (bytesOn-none _ _), upto (omega arith) (none _ _ _))
 
 place-requires : tie.Need-place-requires Inv-loop μ-loop
-place-requires c κs = c .before .before .before .before .pre .0
+place-requires c κs = (c .before .before .before .before .pre .0, fitted c)
 
 mul-copy-run : tie.Need-mul-copy-run Inv-loop μ-loop
 mul-copy-run c = omega arith
@@ -40,7 +46,7 @@ add-copy-run c = omega arith
 
 copy-run-requires : tie.Need-copy-run-requires Inv-loop μ-loop
 copy-run-requires c κs = (
-  rw (c .before .place .ensures) (run-within _ _ (c .before .before .before .before .before .before .pre .0) _ (aligned (c .before .before .before))),
+  rw (c .before .place .ensures) (run-within _ _ (c .before .before .before .before .before .before .pre .0) _ (aligned (c .before .before .before)) (fitted (c .before .before))),
   omega (arith, c .before .before .before .loop .inv .2 .long),
 )
 
@@ -59,7 +65,7 @@ loop-again c =
     let s = t .before .before .before in (
       omega arith,
       run-more _ _ (s .pre .1) _ (t .loop .inv .1) (c .carry .ensures),
-      line-more (s .args .settings) (now (s .args .image)) (s .pre .0) (s .args .from) (s .pre .1) (s .args .at) (t .loop .n)
+      line-more (s .args .settings) (now (s .args .image)) (s .args .from) (s .pre .1) (s .args .at) (t .loop .n)
           (rw (← t .loop .inv .1) (c .before .before .before .before .before .place .ensures)) (t .loop .inv .2) (c .before .before .before .copy-run .ensures),
     )
 

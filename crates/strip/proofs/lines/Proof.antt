@@ -1,11 +1,17 @@
 -- `strip::lines` meets its contract.
-use Prim.Native.Nat.{_+_, _-_, _*_, _≤_}
+use Prim.Native.Nat.{_+_, _-_, _*_, _/_, _≤_}
+use mathlib.Core.Path.{ap, _∙_}
 use native.Mathlib.Omega.{arith}
 use borrow.Author.Needs.{needs}
+use lib.ListN.{length}
 use denote.Ref.{now}
 use Rattle.settings.specs.Modes.{width}
+use Rattle.settings.specs.Banks.{missing}
+use Rattle.counter.specs.declared.Counter.{Counter}
+use Rattle.counter.specs.Counter.{bytesOn}
 use Rattle.counter.proofs.Runs.{line-aligned}
-use Rattle.strip.proofs.Walks.{whole-runs, Before, before-first, after-last, line-within, frame-more, start-more}
+use Rattle.strip.specs.Steps.{LineFitted}
+use Rattle.strip.proofs.Walks.{whole-runs, Before, before-first, after-last, line-within, line-fitted, frame-more, start-more}
 use Rattle.strip.proofs.lines.Statement.{statement}
 use Rattle.strip.proofs.lines.Tie as tie
 
@@ -21,6 +27,15 @@ start-of c = c .before .before .before .before .before
 
 within : (c : tie.In-loop Inv-loop μ-loop) → c .before .loop .n * width (start-of (c .before) .args .settings .look) + width (start-of (c .before) .args .settings .look) ≤ 192 * width (start-of (c .before) .args .settings .look)
 within c = let b = start-of (c .before) in line-within (b .args .settings) (now (b .args .image)) (c .before .loop .n) (c .loop-test .taken)
+
+-- its banks are fitted
+fitted : (c : tie.In-loop Inv-loop μ-loop)
+    → let a = start-of (c .before) .args in LineFitted (a .settings) (length (now (a .image))) (c .before .loop .counter) (16 * (width (a .settings .look) / 16))
+fitted c j h =
+    let b = start-of (c .before) in
+    let s = b .args .settings in
+    let image = now (b .args .image) in
+    ap (λ (d : Counter). missing s (length image) (bytesOn s j d .address)) (c .before .loop .inv .1) ∙ line-fitted s image (length image) (c .before .loop .n) (b .pre .2) (c .loop-test .taken) j (omega (arith, whole-runs s .0))
 
 width-requires : tie.Need-width-requires Inv-loop μ-loop
 width-requires c κs = search needs
@@ -44,6 +59,7 @@ line-requires c κs =
       rw (l .1) (line-aligned _ _),
       whole-runs (b .args .settings) .1,
       omega (arith, whole-runs (b .args .settings) .0, within p, l .2 .long, b .pre .1),
+      fitted p,
     )
 
 cleared-requires : tie.Need-cleared-requires Inv-loop μ-loop
@@ -63,7 +79,7 @@ loop-again c =
     let w = t .before .before .width .ensures in
     let l = t .loop .inv in
     let line = c .before .before .before .line .ensures in
-    (omega arith, start-more _ image (b .pre .2) _ w (l .1) (line .0) (c .cleared .ensures), frame-more _ image _ w (l .1) (l .2) (line .1))
+    (omega arith, start-more _ image (b .pre .3) _ w (l .1) (line .0) (c .cleared .ensures), frame-more _ image _ w (l .1) (l .2) (line .1))
 
 same-length : tie.Need-same-length Inv-loop μ-loop
 same-length c = c .before .loop .inv .2 .long
