@@ -2,6 +2,7 @@
 use Prim.Native.Nat.{ℕ, _+_, _-_, _*_, _/_, _%_, _^_, _<_, _≤_}
 use mathlib.Core.Path.{_≡_, sym, _∙_}
 use mathlib.Core.Bool.{true, false}
+use native.Mathlib.Nat.{mod-lt}
 use native.Mathlib.Omega.{arith}
 use lib.Bits.{bitAnd, and-mask}
 use borrow.Author.Tests.{leb-false, lt-leb}
@@ -50,28 +51,24 @@ module _ (s : Settings) where
     pub size-some : 0 < n
     size-some = by-suited s (λ b m. 0 < m) (omega arith) (omega arith) (omega arith) (omega arith) (omega arith) n fits
 
-    pub place-below : (a : ℕ) → missing s n a ≡ false → imagePlace s a < n
-    unfolding missing imagePlace
-    place-below a e =
-        by-suited s (λ b m. a / 2 ^ b % 2 * 2 ^ b < m → a / 2 ^ b % 2 * 2 ^ b + a % 2 ^ b < m)
-        (λ h. omega arith) (λ h. omega arith) (λ h. omega arith) (λ h. omega arith) (λ h. omega arith) n fits (leb-false n (bankStart s a) e)
-
-    -- so is a run of 16
-    pub run-within : (c : Counter) → Aligned c → missing s n (c .address) ≡ false → imagePlace s (c .address) + 16 ≤ n
-    unfolding missing imagePlace
-    run-within c al e =
-        let a : ℕ = c .address in
-        by-suited s (λ b m. a / 2 ^ b % 2 * 2 ^ b < m → a / 2 ^ b % 2 * 2 ^ b + a % 2 ^ b + 16 ≤ m)
-        (λ h. omega (arith, al .low)) (λ h. omega (arith, al .low)) (λ h. omega (arith, al .low)) (λ h. omega (arith, al .low)) (λ h. omega (arith, al .low)) n fits (leb-false n (bankStart s a) e)
-
-    -- there it is the address modulo the length,
+    -- in a bank that is fitted it is the address modulo the length,
     pub place-modulo : (a : ℕ) → missing s n a ≡ false → imagePlace s a ≡ a % n
     unfolding missing imagePlace
     place-modulo a e =
         by-suited s (λ b m. a / 2 ^ b % 2 * 2 ^ b < m → a / 2 ^ b % 2 * 2 ^ b + a % 2 ^ b ≡ a % m)
         (λ h. omega arith) (λ h. omega arith) (λ h. omega arith) (λ h. omega arith) (λ h. omega arith) n fits (leb-false n (bankStart s a) e)
 
-    -- which a mask finds, since the length is a power of two
+    -- so it lies within the image,
+    pub place-below : (a : ℕ) → missing s n a ≡ false → imagePlace s a < n
+    place-below a e = rw (place-modulo a e) (mod-lt a size-some)
+
+    -- and so does a run of 16,
+    pub run-within : (c : Counter) → Aligned c → missing s n (c .address) ≡ false → imagePlace s (c .address) + 16 ≤ n
+    run-within c al e =
+        rw (place-modulo (c .address) e)
+        (by-suited s (λ b m. c .address % m + 16 ≤ m) (omega (arith, al .low)) (omega (arith, al .low)) (omega (arith, al .low)) (omega (arith, al .low)) (omega (arith, al .low)) n fits)
+
+    -- and a mask finds it, since the length is a power of two
     pub place-masked : (a : ℕ) → missing s n a ≡ false → bitAnd a (n - 1) ≡ imagePlace s a
     place-masked a e =
         by-suited s (λ b m. bitAnd a (m - 1) ≡ a % m) (and-mask a 12) (and-mask a 13) (and-mask a 14) (and-mask a 15) (and-mask a 16) n fits
