@@ -1,4 +1,6 @@
-"""Which bytes are fetched: the counter with its two dividers, its addresses under either fetch rule, the banks of an image, and the strip."""
+"""Which bytes are fetched: the counter with its two dividers, its addresses under either fetch rule, the banks of an image, the strip, and how many image bytes it touches."""
+
+from functools import lru_cache
 
 from pins import bit as pin
 from pins import is_graphics, width
@@ -102,8 +104,9 @@ class Counter:
             self.count_y()
 
 
+@lru_cache(maxsize=1)
 def addresses(word, pins, rule=1):
-    """The address of every byte of the strip: 192 lines of W bytes, in order."""
+    """The address of every byte of the strip: 192 lines of W bytes, in order. Those that were told last are kept, as they are often asked for again."""
     counter = Counter(word, rule)
     found = []
     for _ in range(LINES):
@@ -111,7 +114,7 @@ def addresses(word, pins, rule=1):
             found.append(counter.address())
             counter.after_byte()
         counter.end_line()
-    return found
+    return tuple(found)
 
 
 # CR 7, by M1, M0: the lengths of an image with one bank and with two, and which bit is the bank. In the last two all bits are the place.
@@ -166,3 +169,16 @@ def first_missing(word, pins, image, rule=1):
 def strip(word, pins, image, rule=1):
     """The bytes in fetched order, repeats included."""
     return bytes(image[image_place(word, address)] for address in addresses(word, pins, rule))
+
+
+def line_places(word, pins, rule=1):
+    """The places in the image of each line's bytes, line by line."""
+    places = [image_place(word, address) for address in addresses(word, pins, rule)]
+    return [places[width(pins) * line:width(pins) * (line + 1)] for line in range(LINES)]
+
+
+def touched(word, pins, rule=1):
+    """CR 8: W times the number of lines that are first or whose places differ somewhere from the line before."""
+    lines = line_places(word, pins, rule)
+    counted = [line for line in range(LINES) if line == 0 or lines[line] != lines[line - 1]]
+    return width(pins) * len(counted)

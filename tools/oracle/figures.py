@@ -1,4 +1,4 @@
-"""Figures to check by: document 01's own, figures of CR 1 counted by hand, the case of CR 2 with what it says of the other letters, figures of CR 5 counted by hand, the case of CR 6 with sheets and addresses counted by hand, figures of CR 7 counted by hand, and those of the standards that a picture file goes by, held against these modules."""
+"""Figures to check by: document 01's own, figures of CR 1 counted by hand, the case of CR 2 with what it says of the other letters, figures of CR 5 counted by hand, the case of CR 6 with sheets and addresses counted by hand, figures of CR 7 and of CR 8 counted by hand, and those of the standards that a picture file goes by, held against these modules."""
 
 import zlib
 
@@ -12,7 +12,7 @@ import report
 import sheet
 import word
 
-TEXT, EXTERNAL, CG1, CG2, RG2, CG3, RG3, RG6 = 0x00, 0x10, 0x20, 0x24, 0x26, 0x28, 0x2A, 0x2E
+PIN_MODES = TEXT, EXTERNAL, CG1, RG1, CG2, RG2, CG3, RG3, CG6, RG6 = 0x00, 0x10, 0x20, 0x22, 0x24, 0x26, 0x28, 0x2A, 0x2C, 0x2E
 
 
 def address(control, pin_byte, line, byte, rule=1):
@@ -393,6 +393,137 @@ def missing_shown():
     yield "never by fetching alone", fetch_from(0x0006, EXTERNAL, bytes(4096) + high), ((0, 0, 6144), False)
 
 
+# CR 8: the count of SAM modes 0 to 7, by the bytes a line and the rule. Each X and Y divides 192, so what lasts X or Y lines is counted 192 / X or 192 / Y times.
+TOUCHED = {
+    # A line is one run of 16 places. Where B4 is kept a run lasts X lines, and where it is cleared the first run lasts for all 192.
+    (16, 1): (16, 1024, 16, 1536, 16, 3072, 16, 3072),
+    # Where B4 is cleared the first run of a row of 32 places lasts Y lines.
+    (16, 2): (256, 1024, 1024, 1536, 1536, 3072, 3072, 3072),
+    # A line is two runs. Where X is 1 they are a row, which lasts Y lines; where X is 3 three lines are aa, ab and bb, and where X is 2 two are aa and bb, so each is counted.
+    (32, 1): (512, 6144, 2048, 6144, 3072, 6144, 6144, 6144),
+    (32, 2): (512, 6144, 2048, 6144, 3072, 6144, 6144, 6144),
+}
+
+# CR 8: how many places lie from the start of these windows to their end.
+REACHES = {
+    # The runs that are counted lie one after the other.
+    (16, 1): (16, 1024, 16, 1536, 16, 3072, 16, 3072),
+    # Where B4 is cleared they lie 32 places apart, so the last ends 16 places before its row.
+    (16, 2): (496, 1024, 2032, 1536, 3056, 3072, 6128, 3072),
+    # 384 runs are 192 rows where X and Y are 1; where X is 3 or 2, each third or second of them is another run.
+    (32, 1): (512, 2048, 2048, 3072, 3072, 6144, 6144, 6144),
+    (32, 2): (512, 2048, 2048, 3072, 3072, 6144, 6144, 6144),
+}
+
+# CR 8: boards, as word, image length, and how many places from the start on are fitted.
+BOARDS = (
+    (0x0000, 4096, 4096),
+    (0x00B0, 4096, 1024),  # 2C00 to 2FFF
+    (0x0038, 4096, 512),  # 0E00 to 0FFF
+    (0x0040, 4096, 0),  # from 1000
+    (0x0078, 8192, 65536),  # from 1E00 past the image's end
+    (0x03F8, 8192, 65536),  # from FE00 past FFFF
+    (0x2200, 16384, 16384),  # 8000 to BFFF
+    (0x20D0, 16384, 3072),  # 3400 to 3FFF
+    (0x23F8, 16384, 0),  # from FE00
+    (0x20F8, 32768, 65536),  # from 3E00 into the second bank
+    (0x23F8, 32768, 65536),
+    (0x43F8, 65536, 65536),
+    (0x63F8, 65536, 65536),
+)
+
+
+def bytes_a_line(pin_byte):
+    """W, by document 01's table."""
+    return 16 if pin_byte in (CG1, RG1, RG2, RG3) else 32
+
+
+def count(control, pin_byte, length, rule=1, room=6144):
+    """The count that fetching reports of an image as long as told."""
+    return numbers.fetch_count(control, pin_byte, bytes(length), bytearray(room), rule)
+
+
+def touched_modes():
+    """CR 8: every SAM mode with text, external text and each graphics mode, under both rules; P8, and that no count is above 6,144."""
+    for pin_byte in PIN_MODES:
+        for rule in (1, 2):
+            for mode, said in enumerate(TOUCHED[bytes_a_line(pin_byte), rule]):
+                asked = (mode, pin_byte, rule)
+                yield "touched", (asked, fetch.touched(0x4000 + mode, pin_byte, rule)), (asked, said)
+    yield "P8", [count(0x4000, CG1, 65536, rule) for rule in (1, 2)], [16, 256]
+    counts = [count(0x4000 + mode, pin_byte, 65536) for pin_byte in PIN_MODES for mode in range(8)]
+    yield "the greatest count", max(counts), 6144
+
+
+def touched_boards():
+    """CR 8: with each M and each length suited to it the count is the same, past FFFF and past the image's end too; where a place is not fitted it is 0."""
+    for control, length, fitted in BOARDS:
+        for pin_byte, rule in ((CG1, 1), (CG1, 2), (TEXT, 1), (RG6, 2)):
+            key = (bytes_a_line(pin_byte), rule)
+            for mode, (said, reach) in enumerate(zip(TOUCHED[key], REACHES[key])):
+                asked = (control + mode, pin_byte, rule, length)
+                yield "board", (asked, count(control + mode, pin_byte, length, rule)), (asked, said if reach <= fitted else 0)
+
+
+def touched_lines():
+    """CR 8: where the runs of a line lie, as word, pins, rule, line and the first place of each run.
+
+    512 bytes on from a start are 32 runs, which last 96 lines in SAM mode 1: line 96 has come round, or is in the next bank.
+    """
+    for control, pin_byte, rule, line, runs in (
+        (0x4000, CG1, 1, 191, (0,)),  # P8
+        (0x4000, CG1, 2, 11, (0,)),
+        (0x4000, CG1, 2, 12, (32,)),
+        (0x4001, TEXT, 1, 0, (0, 0)),  # P9: line 1 has the first run of line 0, and only its second is another
+        (0x4001, TEXT, 1, 1, (0, 16)),
+        (0x4001, TEXT, 1, 2, (16, 16)),
+        (0x4001, TEXT, 1, 3, (32, 32)),
+        (0x4003, TEXT, 1, 1, (16, 16)),
+        (0x4000, TEXT, 1, 11, (0, 16)),
+        (0x4000, TEXT, 1, 12, (32, 48)),
+        (0x43F9, CG1, 1, 95, (65520,)),
+        (0x43F9, CG1, 1, 96, (0,)),
+        (0x0079, CG1, 1, 95, (8176,)),
+        (0x0079, CG1, 1, 96, (0,)),
+        (0x21F9, CG1, 1, 95, (32752,)),
+        (0x21F9, CG1, 1, 96, (0,)),
+        (0x20F9, CG1, 2, 96, (16384,)),
+    ):
+        asked = (control, pin_byte, rule, line)
+        said = [first + k for first in runs for k in range(16)]
+        yield "places", (asked, fetch.line_places(control, pin_byte, rule)[line]), (asked, said)
+
+
+def touched_starts():
+    """CR 8: CG1 with SAM mode 1, M1 set and an image of 65,536 gives 1,024 from every start, the last of which passes FFFF; M0, P, R0 and TY alter nothing, nor CSS and INT/EXT."""
+    for start in range(128):
+        control = 0x4001 + 8 * start
+        yield "CG1", (control, count(control, CG1, 65536)), (control, 1024)
+    for control, pin_byte in ((0x43F9, CG1), (0x6001, 0x21), (0x63F9, 0x30), (0xCC01, 0x31), (0xEFF9, CG1)):
+        yield "CG1 under rule 2", (control, count(control, pin_byte, 65536, 2)), (control, 1024)
+
+
+def touched_refused():
+    """CR 8: a refused call reports 0, of a window too that comes to a missing bank on a later line; with all right it reports the count."""
+    for number, said, asked in (
+        (0, 16, (0x4000, CG1, 65536, 1, 3072)),
+        (1, 0, (0x4000, 64, 65536, 1, 6144)),
+        (1, 0, (0x5000, 64, 0, 2, 0)),
+        (4, 0, (0x5000, CG1, 65536, 1, 6144)),
+        (5, 0, (0x4000, CG1, 65535, 1, 6144)),
+        (16, 0, (0x4000, CG1, 32768, 1, 6144)),
+        (7, 0, (0x4000, CG1, 65536, 1, 3071)),
+        (7, 0, (0x4000, TEXT, 65536, 1, 6143)),
+        (17, 0, (0x0040, CG1, 4096, 1, 6144)),
+        (17, 0, (0x0039, CG1, 4096, 1, 6144)),  # on line 96
+        (0, 16, (0x003A, CG1, 4096, 1, 6144)),  # rule 1 stays on the first run
+        (17, 0, (0x003A, CG1, 4096, 2, 6144)),
+    ):
+        control, pin_byte, length, rule, room = asked
+        told = fetch_from(control, pin_byte, bytes(length), rule, room)[0][0]
+        yield "refused", (asked, told, count(*asked)), (asked, number, said)
+
+
 def checks():
     """The check values of CRC-32 and Adler-32, and the last chunk, which is the same in every PNG file."""
     yield "CRC-32 of 123456789", zlib.crc32(b"123456789"), 0xCBF43926
@@ -460,6 +591,7 @@ CHAPTERS = {
     "CR 5": (external, not_valid),
     "CR 6": (rule_addresses, rule_sheets),
     "CR 7": (suited_lengths, image_places, not_fitted, missing_shown),
+    "CR 8": (touched_modes, touched_boards, touched_lines, touched_starts, touched_refused),
     "the picture file": (checks, picture_files),
 }
 

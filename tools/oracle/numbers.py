@@ -6,7 +6,7 @@ from back import first_stray
 from back import read_back as strip_of
 from draw import FRAME_LENGTH, LINES, border, first_not_valid, font_length
 from draw import frame as frame_of
-from fetch import first_missing, image_lengths
+from fetch import first_missing, image_lengths, touched
 from fetch import strip as fetched
 from pins import is_graphics, width
 from word import bit
@@ -78,6 +78,12 @@ def fetch(word, pins, image, strip, rule=1):
     content = fetched(word, pins, image, rule)
     store(strip, content)
     return 0, 0, len(content)
+
+
+def fetch_count(word, pins, image, strip, rule=1):
+    """CR 8: the count that fetching reports beside what it tells. A refused call reports 0."""
+    number, _ = told(FETCHING, Lent(word=word, pins=pins, rule=rule, image=image, strip=strip))
+    return touched(word, pins, rule) if number == 0 else 0
 
 
 def draw(pins, font, strip, frame):

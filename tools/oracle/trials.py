@@ -174,10 +174,11 @@ def rule_2_lines():
 
 def fetch_line(control, pin_byte, image_length, strip_length, rule=1):
     """Fetches to a marked strip, of buffers as long as told."""
-    strip = mark(8192)
-    answer = numbers.fetch(control, pin_byte, tell(65536)[:image_length], room(strip, strip_length), rule)
+    image, strip = tell(65536)[:image_length], mark(8192)
+    answer = numbers.fetch(control, pin_byte, image, room(strip, strip_length), rule)
+    count = numbers.fetch_count(control, pin_byte, image, room(strip, strip_length), rule)
     asked = rule_name(rule) + "fetch word %04X pins %02X image %d strip %d" % (control, pin_byte, image_length, strip_length)
-    return asked + told(answer) + ", strip kept from %d" % kept_from(strip)
+    return asked + told(answer) + ", touched %d, strip kept from %d" % (count, kept_from(strip))
 
 
 def fetches_lines():
@@ -212,11 +213,12 @@ def lengths_lines():
 
 
 def strip_sum_line(control, pin_byte, image_length, rule=1):
-    """The sum of the whole strip of an image as long as told."""
-    strip = bytearray(6144)
-    answer = numbers.fetch(control, pin_byte, vary(image_length), strip, rule)
+    """How many bytes are touched in an image as long as told, and the sum of the whole strip."""
+    image, strip = vary(image_length), bytearray(6144)
+    answer = numbers.fetch(control, pin_byte, image, strip, rule)
+    count = numbers.fetch_count(control, pin_byte, image, strip, rule)
     asked = rule_name(rule) + "strip word %04X pins %02X image %d" % (control, pin_byte, image_length)
-    return asked + told(answer) + ", sum %d" % total(strip[:answer[2]])
+    return asked + told(answer) + ", touched %d, sum %d" % (count, total(strip[:answer[2]]))
 
 
 def strip_sum_lines(control, pin_byte, image_length, rule):
@@ -225,9 +227,13 @@ def strip_sum_lines(control, pin_byte, image_length, rule):
         yield strip_sum_line(control + mode, pin_byte, image_length, rule)
 
 
+# Text, internal and external, and each graphics mode.
+PIN_MODES = (0x00, 0x10, 0x20, 0x22, 0x24, 0x26, 0x28, 0x2A, 0x2C, 0x2E)
+
+
 def strips_lines(rule):
     """Text, internal and external, and each graphics mode, then starts 512 bytes before FFFF is passed, before a bank that is not fitted, before the end of two banks and before the second."""
-    for pin_byte in (0x00, 0x10, 0x20, 0x22, 0x24, 0x26, 0x28, 0x2A, 0x2C, 0x2E):
+    for pin_byte in PIN_MODES:
         yield from strip_sum_lines(0x4000, pin_byte, 65536, rule)
     yield from strip_sum_lines(0x43F8, 0x20, 65536, rule)
     yield from strip_sum_lines(0x43F8, 0x2E, 65536, rule)
@@ -299,8 +305,34 @@ def two_banks_lines():
     yield strip_sum_line(0x8C00, 0x20, 65536)
 
 
+def counts_line(control, pin_byte, image_length, rule=1):
+    """How many bytes are touched by every SAM mode from a word on, in an image as long as told; none where the window is refused."""
+    image, strip = vary(image_length), bytearray(6144)
+    counts = [numbers.fetch_count(control + mode, pin_byte, image, strip, rule) for mode in range(8)]
+    asked = rule_name(rule) + "touched word %04X pins %02X image %d:" % (control, pin_byte, image_length)
+    return asked + "".join(" %d" % count for count in counts)
+
+
+def windows_lines(pin_byte, rule):
+    """Each M1, M0 but 10 with each length that is suited to it: boards with one bank from a bank that is fitted on, and others from 512 bytes before FFFF is passed."""
+    for control, length in ((0x0080, 4096), (0x03F8, 8192), (0x2200, 16384), (0x23F8, 32768), (0x63F8, 65536)):
+        yield counts_line(control, pin_byte, length, rule)
+
+
+def counts_lines():
+    """Text, internal and external, and each graphics mode, then rule 2, and starts from which some SAM modes come to a bank that is not fitted."""
+    for pin_byte in PIN_MODES:
+        yield from windows_lines(pin_byte, 1)
+    yield from windows_lines(0x20, 2)
+    yield counts_line(0x0038, 0x20, 4096)
+    yield counts_line(0x0038, 0x20, 4096, rule=2)
+    yield counts_line(0x20D0, 0x20, 16384, rule=2)
+    yield counts_line(0x20D0, 0x2E, 16384)
+    yield counts_line(0x20D0, 0x2E, 16384, rule=2)
+
+
 def try_fetch():
-    """Addresses, refusals and lengths, and whole strips; then rule 2: addresses, and the same strips; then lengths by M1, M0, and boards with one bank and with two."""
+    """Addresses, refusals and lengths, and whole strips; then rule 2: addresses, and the same strips; then lengths by M1, M0, boards with one bank and with two, and how many bytes are touched."""
     yield from addresses_lines()
     yield from fetches_lines()
     yield from lengths_lines()
@@ -310,6 +342,7 @@ def try_fetch():
     yield from suited_lines()
     yield from one_bank_lines()
     yield from two_banks_lines()
+    yield from counts_lines()
 
 
 # == try_valid

@@ -15,7 +15,9 @@ use Rattle.promises.specs.Choose.{choose}
 use Rattle.promises.specs.First.{firstWhere}
 use Rattle.promises.proofs.Choices.{by-test}
 use Rattle.promises.proofs.Fills.{written-by}
+use Rattle.promises.specs.Count.{somewhere}
 use Rattle.promises.proofs.Firsts.{same-first}
+use Rattle.promises.proofs.Counts.{same-many}
 use Rattle.answer.specs.declared.Answer.{Answer}
 use Rattle.answer.proofs.Answers.{one-answer}
 use Rattle.settings.specs.declared.Look.{Look}
@@ -30,7 +32,8 @@ use Rattle.control.specs.Control.{withBit}
 use Rattle.counter.specs.declared.Counter.{Counter}
 use Rattle.counter.specs.Counter.{start, lineStart, bytesOn, addressOf}
 use Rattle.counter.proofs.Shifts.{bytes-by-v, clear-by-v}
-use Rattle.strip.specs.Fetch.{fetchAddress, fetchPlace, fetchedByte, firstMissing, fetchTold, stripAfter}
+use Rattle.strip.specs.Fetch.{placeOf, fetchAddress, fetchPlace, fetchedByte, firstMissing, fetchTold, stripAfter}
+use Rattle.strip.specs.Touched.{lineTouched, touchedBytes, fetchTouched}
 use Rattle.pixel.specs.Graphics.{count, element, graphic}
 use Rattle.pixel.specs.Text.{pattern, inverted, letter, block, lit, ink}
 use Rattle.pixel.specs.Picture.{pixel, owner, dot, picture}
@@ -41,7 +44,7 @@ use Rattle.screen.specs.Show.{showTold, stripShown, frameShown}
 use Rattle.back.specs.Read.{values, readByte}
 use Rattle.back.specs.Stray.{shows, leftmost, stray, firstStray}
 use Rattle.back.specs.Back.{backPixels, backTold, stripBack}
-use Rattle.claims.proofs.Calls.{Lent, Fetches, Shows}
+use Rattle.claims.proofs.Calls.{Lent, Touches, Fetches, Shows}
 
 -- of the pins: whether they are above 63, whether the text is external, A/G, GM2-GM0 and CSS
 pub record SameLook (l m : Look) : Type 0 where
@@ -143,6 +146,10 @@ module _ {s t : Settings} (e : SameFetches s t) where
   unfolding imagePlace
   fetchPlace-alike k = rw (fetchAddress-alike k, e .size)
 
+  placeOf-alike : (n c : ℕ) → placeOf s n c ≡ placeOf t n c
+  unfolding imagePlace
+  placeOf-alike n c = rw (e .addresses n c, e .size)
+
   -- 16 and 17
   suited-alike : (n : ℕ) → suited s n ≡ suited t n
   unfolding suited
@@ -167,6 +174,15 @@ module _ {s t : Settings} (e : SameFetches s t) where
   stripAfter-alike image strip =
       rw (fetchTold-alike image strip, width-alike (e .look), written-by (stripLength (t .look)) strip (λ k _. ap (λ (p : ℕ). getD image p 0) (fetchPlace-alike k)))
 
+  lineTouched-alike : (n : ℕ) → lineTouched s n ≡ lineTouched t n
+  unfolding lineTouched imagePlace
+  lineTouched-alike zero = refl
+  lineTouched-alike (suc n) = λ i. somewhere (λ (c : ℕ). not (eqb (placeOf-alike (suc n) c i) (placeOf-alike n c i))) (width-alike (e .look) i)
+
+  fetchTouched-alike : (image strip : List ℕ) → fetchTouched s image strip ≡ fetchTouched t image strip
+  unfolding fetchTouched touchedBytes
+  fetchTouched-alike image strip = rw (fetchTold-alike image strip, width-alike (e .look), same-many (lineTouched s) (lineTouched t) 192 (λ n _. lineTouched-alike n))
+
   -- both at once
   module _ (image font strip frame : List ℕ) where
     showTold-alike : showTold s image font strip frame ≡ showTold t image font strip frame
@@ -189,9 +205,14 @@ module _ {s t : Settings} (e : SameFetches s t) where
   pub same-fetched : (κs κs′ : Lfts 2) (image image′ strip strip′ : Lent) (z z′ : Answer) (out out′ : List ℕ)
       → now image ≡ now image′ → now strip ≡ now strip′ → Fetches κs s image strip z out → Fetches κs′ t image′ strip′ z′ out′ → (z ≡ z′) × (out ≡ out′)
   same-fetched κs κs′ image image′ strip strip′ z z′ out out′ i b p q = (
-    one-answer (p .0 ∙ fetchTold-alike (now image) (now strip)) (q .0 ∙ rw (i, b)),
-    p .1 ∙ stripAfter-alike (now image) (now strip) ∙ rw (i, b) (sym (q .1)),
+    one-answer (p .call .0 ∙ fetchTold-alike (now image) (now strip)) (q .call .0 ∙ rw (i, b)),
+    p .call .1 .1 ∙ stripAfter-alike (now image) (now strip) ∙ rw (i, b) (sym (q .call .1 .1)),
   )
+
+  -- and reports the same count,
+  pub same-count : (κs κs′ : Lfts 2) (image image′ strip strip′ : Lent) (z z′ : Answer) (n n′ : ℕ) (out out′ : List ℕ)
+      → now image ≡ now image′ → now strip ≡ now strip′ → Touches κs s image strip z n out → Touches κs′ t image′ strip′ z′ n′ out′ → n ≡ n′
+  same-count κs κs′ image image′ strip strip′ z z′ n n′ out out′ i b p q = p .1 .0 ∙ fetchTouched-alike (now image) (now strip) ∙ rw (i, b) (sym (q .1 .0))
 
   -- and both at once the same answer, strip and frame
   pub same-shown : (κs κs′ : Lfts 4) (image image′ font font′ strip strip′ frame frame′ : Lent) (z z′ : Answer) (bytes bytes′ pixels pixels′ : List ℕ)

@@ -46,7 +46,7 @@ fits-well s size n f = record {
 
 -- Fetching, where it is done,
 pub fetched-well : (κs : Lfts 2) (s : Settings) (image strip : Lent) (z : Answer) (out : List ℕ) → Fetches κs s image strip z out → Done z → WellPlaced s (length (now image))
-fetched-well κs s image strip z out p d = fits-well s (length (now image)) (length (now strip)) (accepted s (now image) (now strip) (rw (p .0) at d))
+fetched-well κs s image strip z out p d = fits-well s (length (now image)) (length (now strip)) (accepted s (now image) (now strip) (rw (p .call .0) at d))
 
 -- and both at once.
 pub shown-well : (κs : Lfts 4) (s : Settings) (image font strip frame : Lent) (z : Answer) (bytes pixels : List ℕ) → Shows κs s image font strip frame z bytes pixels → Done z → WellPlaced s (length (now image))

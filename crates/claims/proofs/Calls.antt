@@ -29,9 +29,14 @@ Lent = RefT (List ℕ)
 abbrev pub Plays : Lfts 1 → ℕ → Lent → Answer → Type 0
 Plays κs word writes z = Allows play-op κs (word, (writes, tt)) z (tt, (tt, tt))
 
--- `fetch` may answer z and leave `out` in the strip
-abbrev pub Fetches : Lfts 2 → Settings → Lent → Lent → Answer → List ℕ → Type 0
-Fetches κs s image strip z out = Allows fetch-op κs (s, (image, (strip, tt))) z (tt, (tt, (out, tt)))
+-- `fetch` may answer z, report the count t and leave `out` in the strip
+abbrev pub Touches : Lfts 2 → Settings → Lent → Lent → Answer → ℕ → List ℕ → Type 0
+Touches κs s image strip z t out = Allows fetch-op κs (s, (image, (strip, tt))) (record { answer = z; touched = t }) (tt, (tt, (out, tt)))
+
+-- `fetch` may answer z and leave `out` in the strip, whatever it reports
+pub record Fetches (κs : Lfts 2) (s : Settings) (image strip : Lent) (z : Answer) (out : List ℕ) : Type 0 where
+  pub count : ℕ
+  pub call : Touches κs s image strip z count out
 
 -- `draw` may answer z and leave `out` in the frame
 abbrev pub Draws : Lfts 3 → Look → Lent → Lent → Lent → Answer → List ℕ → Type 0

@@ -97,10 +97,10 @@ pub fetch-demand : (κs : Lfts 2) (s : Settings) (image strip : Lent) (z : Answe
     → Ordered (toldOf z) (fetchOrder s (length (now image)) (length (now strip))) (stripLength (s .look)) × Guarded (toldOf z) (stripLength (s .look)) (now strip) out
 unfolding fetchTold
 fetch-demand κs s image strip z out p = (
-  ordered (fetchOrder s (length (now image)) (length (now strip))) (stripLength (s .look)) tt (p .0),
+  ordered (fetchOrder s (length (now image)) (length (now strip))) (stripLength (s .look)) tt (p .call .0),
   guarded (fetchedByte s (now image)) (stripLength (s .look)) (now strip)
-      (λ e. let d = rw (p .0) at e in (fetch-accepted s (now image) (now strip) d .strip-long, p .1 ∙ strip-done s (now image) (now strip) d))
-      (λ no. p .1 ∙ strip-refused s (now image) (now strip) (λ e. no (rw (p .0) e))),
+      (λ e. let d = rw (p .call .0) at e in (fetch-accepted s (now image) (now strip) d .strip-long, p .call .1 .1 ∙ strip-done s (now image) (now strip) d))
+      (λ no. p .call .1 .1 ∙ strip-refused s (now image) (now strip) (λ e. no (rw (p .call .0) e))),
 )
 
 pub draw-demand : (κs : Lfts 3) (l : Look) (font strip frame : Lent) (z : Answer) (out : List ℕ) → Draws κs l font strip frame z out

@@ -84,14 +84,14 @@ unfolding fetchAddress
 strip-bytes κs s image strip z out p d n c hn hc =
     let k : width (s .look) * n + c ≡ n * width (s .look) + c = ap (λ (m : ℕ). m + c) (mul-comm (width (s .look)) n) in
     let room : n * width (s .look) + width (s .look) ≤ stripLength (s .look) = rw (← suc-mul n (width (s .look))) (mul-le-mul-right (width (s .look)) hn) in
-    rw (k, p .1)
-    (strip-byte s (now image) (now strip) (rw (p .0) at d) (n * width (s .look) + c) (omega arith)
+    rw (k, p .call .1 .1)
+    (strip-byte s (now image) (now strip) (rw (p .call .0) at d) (n * width (s .look) + c) (omega arith)
     ∙ rw (digits-div n hc, digits-mod n hc))
 
 pub strip-long : (κs : Lfts 2) (s : Settings) (image strip : Lent) (z : Answer) (out : List ℕ) → Fetches κs s image strip z out → Done z → value z ≡ stripLength (s .look)
 unfolding fetchTold
 strip-long κs s image strip z out p d =
-    ap (λ (t : Told). t .value) (p .0 ∙ done-says (done (stripLength (s .look))) refl (fetchOrder s (length (now image)) (length (now strip))) tt (rw (p .0) at d))
+    ap (λ (t : Told). t .value) (p .call .0 ∙ done-says (done (stripLength (s .look))) refl (fetchOrder s (length (now image)) (length (now strip))) tt (rw (p .call .0) at d))
 
 -- (iii) Each pixel is that of the picture, and the value told is the border.
 pub frame-pixels : (κs : Lfts 3) (l : Look) (font strip frame : Lent) (z : Answer) (out : List ℕ) → Draws κs l font strip frame z out → Done z

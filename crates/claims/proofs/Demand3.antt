@@ -40,8 +40,8 @@ pub fetch-window : (s : Settings) (κs κs′ : Lfts 2) (image image′ strip st
     → ((a : ℕ) → Fetched s a → getD (now image) a 0 ≡ getD (now image′) a 0)
     → Fetches κs s image strip z out → Fetches κs′ s image′ strip′ z′ out′ → (z ≡ z′) × (out ≡ out′)
 fetch-window s κs κs′ image image′ strip strip′ z z′ out out′ long same agree p q = (
-  one-answer (p .0 ∙ same-told s (now image) (now image′) (now strip) long agree) (q .0 ∙ rw same),
-  p .1 ∙ rw (same-strip s (now image) (now image′) (now strip) long agree, same) (sym (q .1)),
+  one-answer (p .call .0 ∙ same-told s (now image) (now image′) (now strip) long agree) (q .call .0 ∙ rw same),
+  p .call .1 .1 ∙ rw (same-strip s (now image) (now image′) (now strip) long agree, same) (sym (q .call .1 .1)),
 )
 
 -- and where both calls are done, a strip byte differs exactly where the images differ at the place of its fetch; nothing else does.
@@ -54,8 +54,8 @@ pub fetch-differs : (s : Settings) (κs κs′ : Lfts 2) (image image′ strip s
 fetch-differs s κs κs′ image image′ strip strip′ z z′ out out′ same p q d d′ =
     let a = fetch-demand κs s image strip z out p .1 in
     let b = fetch-demand κs′ s image′ strip′ z′ out′ q .1 in (
-      λ k h. let x = ap (λ (l : List ℕ). getD l k 0) (p .1) ∙ strip-byte s (now image) (now strip) (rw (p .0) at d) k h in
-          let y = ap (λ (l : List ℕ). getD l k 0) (q .1) ∙ strip-byte s (now image′) (now strip′) (rw (q .0) at d′) k h in
+      λ k h. let x = ap (λ (l : List ℕ). getD l k 0) (p .call .1 .1) ∙ strip-byte s (now image) (now strip) (rw (p .call .0) at d) k h in
+          let y = ap (λ (l : List ℕ). getD l k 0) (q .call .1 .1) ∙ strip-byte s (now image′) (now strip′) (rw (q .call .0) at d′) k h in
           (λ e. sym x ∙ e ∙ y, λ e. x ∙ e ∙ sym y),
       λ k h. a .past k h ∙ ap (λ (l : List ℕ). getD l k 0) same ∙ sym (b .past k h),
     )

@@ -18,8 +18,8 @@ use Rattle.settings.specs.declared.Rule.the-variants.{One}
 use Rattle.settings.specs.declared.Settings.{Settings}
 use Rattle.settings.specs.Fields.{lookOf, settingsOf, ruleNumber, bits, videoMode, offset, memory, graphics, gm, css}
 use Rattle.control.specs.Control.{withBit}
-use Rattle.claims.proofs.Calls.{Lent, Fetches, Draws, Shows, ReadsBack}
-use Rattle.claims.proofs.Alikes.{SameLook, SameFetches, by-fields, same-fetched, same-shown, drawTold-alike, frameAfter-alike, backTold-alike, stripBack-alike}
+use Rattle.claims.proofs.Calls.{Lent, Touches, Fetches, Draws, Shows, ReadsBack}
+use Rattle.claims.proofs.Alikes.{SameLook, SameFetches, by-fields, same-fetched, same-count, same-shown, drawTold-alike, frameAfter-alike, backTold-alike, stripBack-alike}
 use Rattle.claims.proofs.Alikes.{by-number, by-rule, by-bit, by-high, bits-below, bits-above}
 
 -- What is felt of the pins, each as a number.
@@ -82,6 +82,10 @@ same-settings s t (v, (f, (r, (m, (u, look))))) = by-fields s t v f (ap (λ (n :
 pub felt-fetch : (s t : Settings) → Alike felt s t → (κs κs′ : Lfts 2) (image image′ strip strip′ : Lent) (z z′ : Answer) (out out′ : List ℕ)
     → now image ≡ now image′ → now strip ≡ now strip′ → Fetches κs s image strip z out → Fetches κs′ t image′ strip′ z′ out′ → (z ≡ z′) × (out ≡ out′)
 felt-fetch s t a = same-fetched (same-settings s t a)
+
+pub felt-count : (s t : Settings) → Alike felt s t → (κs κs′ : Lfts 2) (image image′ strip strip′ : Lent) (z z′ : Answer) (n n′ : ℕ) (out out′ : List ℕ)
+    → now image ≡ now image′ → now strip ≡ now strip′ → Touches κs s image strip z n out → Touches κs′ t image′ strip′ z′ n′ out′ → n ≡ n′
+felt-count s t a = same-count (same-settings s t a)
 
 -- Drawing: the same answer and frame.
 pub felt-draw : (l m : Look) → Alike feltLook l m → (κs κs′ : Lfts 3) (font font′ strip strip′ frame frame′ : Lent) (z z′ : Answer) (out out′ : List ℕ)

@@ -14,5 +14,6 @@ pub mod LowerCase
 pub mod External
 pub mod Rules
 pub mod Banks
+pub mod Touched
 pub mod Ascents
 pub mod Unfit

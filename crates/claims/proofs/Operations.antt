@@ -52,13 +52,13 @@ operations =
     ∷ fixed settings.short-strip-fixes
     ∷ fixed settings.short-frame-fixes
     ∷ fixed control.play-fixes
-    ∷ fixed counter.ends-count-fixes
+    ∷ fixed counter.line-lasts-fixes
+    ∷ fixed counter.one-stretch-fixes
+    ∷ fixed counter.line-step-fixes
     ∷ fixed counter.row-lasts-fixes
     ∷ fixed counter.start-fixes
     ∷ fixed counter.carry-fixes
     ∷ fixed counter.advance-fixes
-    ∷ fixed counter.fall-fixes
-    ∷ fixed counter.cleared-fixes
     ∷ fixed counter.clear-fixes
     ∷ fixed strip.not-fitted-fixes
     ∷ fixed strip.fetch-fixes
@@ -130,13 +130,13 @@ pub named : map (λ o. o .operation .key) operations
     ∷ "settings::short_strip"
     ∷ "settings::short_frame"
     ∷ "control::play"
-    ∷ "counter::ends_count"
+    ∷ "counter::line_lasts"
+    ∷ "counter::one_stretch"
+    ∷ "counter::line_step"
     ∷ "counter::row_lasts"
     ∷ "counter::start"
     ∷ "counter::Counter::carry"
     ∷ "counter::Counter::advance"
-    ∷ "counter::Counter::fall"
-    ∷ "counter::Counter::cleared"
     ∷ "counter::Counter::clear"
     ∷ "strip::not_fitted"
     ∷ "strip::fetch"

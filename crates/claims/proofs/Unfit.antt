@@ -246,7 +246,7 @@ idle k e differ same = differ (sym e ∙ ap (λ (x : List ℕ). getD x k 0) same
 
 pub not-idle-strip : (κs : Lfts 2) (s : Settings) (image strip : Lent) (z : Answer) (out : List ℕ) → Fetches κs s image strip z out → Done z
     → (k : ℕ) → k < stripLength (s .look) → (fetchedByte s (now image) k ≡ getD (now strip) k 0 → ⊥) → out ≡ now strip → ⊥
-not-idle-strip κs s image strip z out p d k h = idle k (ap (λ (x : List ℕ). getD x k 0) (p .1) ∙ strip-byte s (now image) (now strip) (rw (p .0) at d) k h)
+not-idle-strip κs s image strip z out p d k h = idle k (ap (λ (x : List ℕ). getD x k 0) (p .call .1 .1) ∙ strip-byte s (now image) (now strip) (rw (p .call .0) at d) k h)
 
 pub not-idle-frame : (κs : Lfts 3) (l : Look) (font strip frame : Lent) (z : Answer) (out : List ℕ) → Draws κs l font strip frame z out → Done z
     → (k : ℕ) → k < frameLength → (picture l (now font) (now strip) k ≡ getD (now frame) k 0 → ⊥) → out ≡ now frame → ⊥

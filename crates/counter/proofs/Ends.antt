@@ -24,9 +24,9 @@ use Rattle.counter.proofs.Walks.{bytesOn-on, lineStart-more}
 use Rattle.counter.proofs.Runs.{Aligned, run-end, carry-aligned, line-aligned, line-end-aligned}
 
 -- a counter whose B0-B4 are 0, and whose X divider is at 0
-record Level (c : Counter) : Type 0 where
-  low : c .address % 32 ≡ 0
-  rest : c .x ≡ 0
+pub record Level (c : Counter) : Type 0 where
+  pub low : c .address % 32 ≡ 0
+  pub rest : c .x ≡ 0
 
 -- its B4 is 0, and 16 on it is 1
 unset : (a : ℕ) → a % 32 ≡ 0 → a / 16 % 2 ≡ 0
@@ -64,7 +64,7 @@ module _ (s : Settings) where
     x-full x = rw x-one (le-ltb (x + 1) 1 (omega arith))
 
     -- from 0 to 1,
-    rises : (c : Counter) → Level c → carry s c ≡ counter (wrap (c .address) 16) 0 (c .y)
+    pub rises : (c : Counter) → Level c → carry s c ≡ counter (wrap (c .address) 16) 0 (c .y)
     unfolding carry
     rises c l =
         let r : run c ≡ c .address = omega (arith, l .low) in
@@ -152,10 +152,6 @@ module _ (s : Settings) where
         let c = lineStart s n in
         let l = line-level five n in
         rises five c l ∙ ap (λ (a : ℕ). counter a 0 (c .y)) (wrap-small (c .address) 16 (omega (arith, l .low, line-aligned s n .fits)))
-
-    -- both runs lie in one row of 32 places
-    pub second-run : (n : ℕ) → bytesOn s 16 (lineStart s n) .address / 32 ≡ lineStart s n .address / 32
-    second-run n = ap (λ (d : Counter). d .address / 32) (run-end s (lineStart s n) (line-aligned s n) ∙ run-on n) ∙ omega (arith, line-level five n .low)
 
     pub wide-end : (n : ℕ) → lineStart s (n + 1) ≡ fall s (lineStart s n)
     wide-end n =

@@ -4,6 +4,7 @@ pub mod Tables
 pub mod Walks
 pub mod Runs
 pub mod Ends
+pub mod Lines
 pub mod Rows
 pub mod Shifts
 pub mod Rules

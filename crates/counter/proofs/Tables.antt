@@ -1,6 +1,6 @@
 -- What document 01's table by V2-V0 says: bounds of the dividers, and what a line's end keeps of an address.
 use Prim.Native.Nat.{ℕ, _+_, _*_, _/_, _%_, _^_, _≤_, _<_}
-use mathlib.Core.Path.{_≡_}
+use mathlib.Core.Path.{_≡_, subst}
 use mathlib.Core.Bool.{false, _||_}
 use mathlib.Core.List.{List, [], _∷_}
 use native.Mathlib.Omega.{arith}
@@ -37,6 +37,16 @@ by-x s P a b c = each P timesX 0 (a, (c, (a, (b, (a, (a, (a, (a, tt)))))))) (vid
 
 pub by-y : (s : Settings) (P : ℕ → Type 0) → P 1 → P 2 → P 3 → P 12 → P (divY s)
 by-y s P a b c d = each P timesY 0 (d, (a, (c, (a, (b, (a, (a, (a, tt)))))))) (videoMode s) (mod-lt _ (lit< tt))
+
+-- X × Y, of which one is 1 in every row
+abbrev products : List ℕ
+products = 12 ∷ 3 ∷ 3 ∷ 2 ∷ 2 ∷ 1 ∷ 1 ∷ 1 ∷ []
+
+pub by-both : (s : Settings) (P : ℕ → Type 0) → P 1 → P 2 → P 3 → P 12 → P (divX s * divY s)
+by-both s P a b c d =
+    let e : getD products (videoMode s) 0 ≡ divX s * divY s =
+    eqb→eq _ _ (each-below (λ v. eqb (getD products v 0) (getD timesX v 0 * getD timesY v 0)) 8 tt (videoMode s) (mod-lt _ (lit< tt))) in
+    subst P e (each P products 0 (d, (c, (c, (b, (b, (a, (a, (a, tt)))))))) (videoMode s) (mod-lt _ (lit< tt)))
 
 -- a fact about the lowest bit kept, B5, B4 or B1, by the rows of the table
 pub by-kept : (s : Settings) (P : ℕ → Type 0) → P 5 → P 4 → P 1 → P (kept s)

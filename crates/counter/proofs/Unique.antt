@@ -2,20 +2,40 @@
 use mathlib.Core.Path.{refl, sym, _∙_}
 use base.Logic.{emp, id⊢}
 use Rattle.promises.specs.Fixes.{Operation, Fixes, whole, one-tells}
-use Rattle.counter.proofs.ends_count as ends-count
+use Rattle.counter.proofs.line_lasts as line-lasts
+use Rattle.counter.proofs.one_stretch as one-stretch
+use Rattle.counter.proofs.line_step as line-step
 use Rattle.counter.proofs.row_lasts as row-lasts
 use Rattle.counter.proofs.start as start
 use Rattle.counter.proofs.Counter.carry as carry
 use Rattle.counter.proofs.Counter.advance as advance
-use Rattle.counter.proofs.Counter.fall as fall
-use Rattle.counter.proofs.Counter.cleared as cleared
 use Rattle.counter.proofs.Counter.clear as clear
 
-abbrev pub ends-count-op : Operation
-ends-count-op = record { key = ends-count.Key.name; T = ends-count.ended; clauses = λ M. ends-count.clauses; Says = ends-count.Reads.Learnt; O = _; seen = λ κs. whole }
+abbrev pub line-lasts-op : Operation
+line-lasts-op = record { key = line-lasts.Key.name; T = line-lasts.ended; clauses = λ M. line-lasts.clauses; Says = line-lasts.Reads.Learnt; O = _; seen = λ κs. whole }
 
-pub ends-count-fixes : Fixes ends-count-op
-ends-count-fixes = record {
+pub line-lasts-fixes : Fixes line-lasts-op
+line-lasts-fixes = record {
+  takes-all = λ w κs a g. id⊢ (w .𝓤) (emp (w .𝓤));
+  tells = λ w κs a g z e. one-tells (w .𝓤) _;
+  one-outcome = λ κs a z z′ ws ws′ p q. (p ∙ sym q, refl);
+}
+
+abbrev pub one-stretch-op : Operation
+one-stretch-op = record { key = one-stretch.Key.name; T = one-stretch.ended; clauses = λ M. one-stretch.clauses; Says = one-stretch.Reads.Learnt; O = _; seen = λ κs. whole }
+
+pub one-stretch-fixes : Fixes one-stretch-op
+one-stretch-fixes = record {
+  takes-all = λ w κs a g. id⊢ (w .𝓤) (emp (w .𝓤));
+  tells = λ w κs a g z e. one-tells (w .𝓤) _;
+  one-outcome = λ κs a z z′ ws ws′ p q. (p ∙ sym q, refl);
+}
+
+abbrev pub line-step-op : Operation
+line-step-op = record { key = line-step.Key.name; T = line-step.ended; clauses = λ M. line-step.clauses; Says = line-step.Reads.Learnt; O = _; seen = λ κs. whole }
+
+pub line-step-fixes : Fixes line-step-op
+line-step-fixes = record {
   takes-all = λ w κs a g. id⊢ (w .𝓤) (emp (w .𝓤));
   tells = λ w κs a g z e. one-tells (w .𝓤) _;
   one-outcome = λ κs a z z′ ws ws′ p q. (p ∙ sym q, refl);
@@ -56,26 +76,6 @@ advance-op = record { key = advance.Key.name; T = advance.ended; clauses = λ M.
 
 pub advance-fixes : Fixes advance-op
 advance-fixes = record {
-  takes-all = λ w κs a g. id⊢ (w .𝓤) (emp (w .𝓤));
-  tells = λ w κs a g z e. one-tells (w .𝓤) _;
-  one-outcome = λ κs a z z′ ws ws′ p q. (p ∙ sym q, refl);
-}
-
-abbrev pub fall-op : Operation
-fall-op = record { key = fall.Key.name; T = fall.ended; clauses = λ M. fall.clauses; Says = fall.Reads.Learnt; O = _; seen = λ κs. whole }
-
-pub fall-fixes : Fixes fall-op
-fall-fixes = record {
-  takes-all = λ w κs a g. id⊢ (w .𝓤) (emp (w .𝓤));
-  tells = λ w κs a g z e. one-tells (w .𝓤) _;
-  one-outcome = λ κs a z z′ ws ws′ p q. (p ∙ sym q, refl);
-}
-
-abbrev pub cleared-op : Operation
-cleared-op = record { key = cleared.Key.name; T = cleared.ended; clauses = λ M. cleared.clauses; Says = cleared.Reads.Learnt; O = _; seen = λ κs. whole }
-
-pub cleared-fixes : Fixes cleared-op
-cleared-fixes = record {
   takes-all = λ w κs a g. id⊢ (w .𝓤) (emp (w .𝓤));
   tells = λ w κs a g z e. one-tells (w .𝓤) _;
   one-outcome = λ κs a z z′ ws ws′ p q. (p ∙ sym q, refl);

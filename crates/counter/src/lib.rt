@@ -5,7 +5,7 @@ ghost use mathlib.Core.Path.{_≡_};
 ghost use Prim.Native.Nat.{_<_};
 ghost use lib.ListN.{getD};
 ghost use Rattle.counter.specs.Counter.{timesX, timesY, keptFrom, start, fall, carry, advance, cleared, clearingCounts, clear};
-ghost use Rattle.counter.specs.Steps.{endsCount, rowLasts};
+ghost use Rattle.counter.specs.Steps.{clearsB4, endsCount, rowLasts, lineLasts, oneStretch, lineStep};
 
 // The address bits B0-B15, and the counts of the X and Y dividers.
 pub struct Counter {
@@ -59,32 +59,74 @@ fn clearing_counts(rule: Rule) -> bool
     }
 }
 
-// Whether every line's end counts on the Y divider: asked once a frame, it leaves each loop over lines one way to end a line.
-pub fn ends_count(settings: Settings) -> bool
+// Whether a line's end clears B4.
+fn clears_b4(settings: Settings) -> bool
+    ensures { λ r. ⌜ r ≡ clearsB4 settings ⌝ }
+{
+    let kept = kept_from(settings::video_mode(settings));
+    kept == 5
+}
+
+// Whether every line's end counts on the Y divider.
+fn ends_count(settings: Settings) -> bool
     ensures { λ r. ⌜ r ≡ endsCount settings ⌝ }
 {
     let rule = settings.rule;
     let one_run = settings::width(settings.look) == 16;
-    let kept = kept_from(settings::video_mode(settings));
-    clearing_counts(rule) & (one_run & (kept == 5))
+    let cleared = clears_b4(settings);
+    clearing_counts(rule) & (one_run & cleared)
+}
+
+// How many lines in a row have the places of the first of them, the same throughout a frame.
+pub fn line_lasts(settings: Settings) -> usize
+    ensures { λ r. ⌜ r ≡ lineLasts settings ⌝ }
+{
+    let v = settings::video_mode(settings);
+    let x = times_x(v);
+    let y = times_y(v);
+    let one_run = settings::width(settings.look) == 16;
+    let cleared = clears_b4(settings);
+    if ends_count(settings) {
+        return y;
+    }
+    if one_run & cleared {
+        return 192;
+    }
+    if one_run | (x == 1) { x * y } else { 1 }
+}
+
+// Whether each line is one stretch of places.
+pub fn one_stretch(settings: Settings) -> bool
+    ensures { λ r. ⌜ r ≡ oneStretch settings ⌝ }
+{
+    let x = times_x(settings::video_mode(settings));
+    (settings::width(settings.look) == 16) | (x == 1)
+}
+
+// How far such a stretch lies from the one before.
+pub fn line_step(settings: Settings) -> u16
+    ensures { λ r. ⌜ r ≡ lineStep settings ⌝ }
+{
+    let two_runs = settings::width(settings.look) == 32;
+    if clears_b4(settings) | two_runs {
+        32
+    } else {
+        16
+    }
 }
 
 // How many fetches a row of 32 places lasts, the same for every row of a frame.
 pub fn row_lasts(settings: Settings) -> usize
     ensures { λ r. ⌜ r ≡ rowLasts settings ⌝ }
 {
-    let v = settings::video_mode(settings);
-    let x = times_x(v);
-    let y = times_y(v);
+    let x = times_x(settings::video_mode(settings));
     let wide = settings::width(settings.look);
-    let kept = kept_from(v);
-    if ends_count(settings) {
-        return 16 * y;
+    let lines = line_lasts(settings);
+    if clears_b4(settings) {
+        wide * lines
+    } else {
+        32 * x
     }
-    if (wide == 16) & (kept == 5) {
-        return 16 * 192;
-    }
-    32 * (x * y)
 }
 
 // The counter before a frame's first byte.
@@ -154,7 +196,7 @@ impl Counter {
     }
 
     // The counter whose B4 has gone from 1 to 0: the Y divider counts.
-    pub fn fall(self, settings: Settings) -> Counter
+    fn fall(self, settings: Settings) -> Counter
         ensures { λ r. ⌜ r ≡ fall settings self ⌝ }
     {
         let v = settings::video_mode(settings);
@@ -174,7 +216,7 @@ impl Counter {
     }
 
     // The counter with the bits cleared that a line's end clears.
-    pub fn cleared(self, settings: Settings) -> Counter
+    fn cleared(self, settings: Settings) -> Counter
         ensures { λ r. ⌜ r ≡ cleared settings self ⌝ }
     {
         let v = settings::video_mode(settings);

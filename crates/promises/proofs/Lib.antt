@@ -4,5 +4,6 @@ pub mod Orders
 pub mod Fills
 pub mod Tables
 pub mod Firsts
+pub mod Counts
 pub mod Later
 pub mod Parts

@@ -3,6 +3,7 @@ pub mod Choose
 pub mod Told
 pub mod Order
 pub mod First
+pub mod Count
 pub mod Written
 pub mod Fixes
 pub mod Part

@@ -125,7 +125,7 @@ module _ (s : Settings) where
       row-of s (k / w) (k % w) (div-lt-iff-lt-mul (width-pos (s .look)) .1 h) (mod-lt k (width-pos (s .look))) ∙ ap (λ (i : ℕ). (offset s * 16 + i / rowLasts s) % 2048) e
 
   -- a number that 64 bits hold
-  pub first-small : rowsLeft s from * rowLasts s ≤ 2048 * 3072
+  pub first-small : rowsLeft s from * rowLasts s ≤ 2048 * (32 * 192)
   first-small = mul-le-mul (by-bit s (λ b. (2 ^ b - from % 2 ^ b) / 32 ≤ 2048) (omega arith) (omega arith) (omega arith)) (lasts-le s)
 
   module _ (size : ℕ) where

@@ -1,9 +1,9 @@
--- Laws of what fetching answers and leaves.
+-- Laws of what fetching answers, leaves and reports.
 use Prim.Native.Nat.{ℕ, _≤_}
 use mathlib.Core.Path.{_≡_, refl, sym, _∙_}
 use mathlib.Core.Bool.{true}
 use mathlib.Core.List.{List, [], _∷_}
-use borrow.Author.Tests.{ltb-false, not-false}
+use borrow.Author.Tests.{eq-eqb, ne-eqb, ltb-false, not-false}
 use lib.ListN.{length}
 use Rattle.promises.specs.Told.{Told, done}
 use Rattle.promises.specs.Order.{firstOf}
@@ -14,6 +14,7 @@ use Rattle.settings.specs.declared.Settings.{Settings}
 use Rattle.settings.specs.Banks.{suited}
 use Rattle.settings.specs.Refusals.{stripLength}
 use Rattle.strip.specs.Fetch.{fetchOrder, fetchTold, fetchedByte, stripAfter}
+use Rattle.strip.specs.Touched.{touchedBytes, fetchTouched}
 use Rattle.strip.specs.Steps.{Fitted}
 use Rattle.strip.proofs.Banks.{all-fitted}
 
@@ -43,6 +44,15 @@ module _ (s : Settings) (image strip : List ℕ) where
   unfolding stripAfter
   strip-refused h = leaves-refused (fetchTold s image strip) _ strip h
 
+  -- and what they report
+  pub touched-done : fetchTold s image strip .number ≡ 0 → fetchTouched s image strip ≡ touchedBytes s
+  unfolding fetchTouched
+  touched-done e = simp (eq-eqb _ _ e)
+
+  pub touched-refused : (fetchTold s image strip .number ≡ 0 → ⊥) → fetchTouched s image strip ≡ 0
+  unfolding fetchTouched
+  touched-refused h = simp (ne-eqb _ _ h)
+
   -- a call keeps the strip's length
   pub strip-same-length : length (stripAfter s image strip) ≡ length strip
   unfolding stripAfter
@@ -54,12 +64,13 @@ module _ (s : Settings) (image strip : List ℕ) where
     unfolding fetchTold
     as-told = told
 
-    pub kept : (t .number ≡ 0 → ⊥) → (t ≡ fetchTold s image strip) × (strip ≡ stripAfter s image strip)
-    kept h = (as-told, sym (strip-refused (λ z. h (rw as-told z))))
+    pub kept : (t .number ≡ 0 → ⊥) → (t ≡ fetchTold s image strip) × ((0 ≡ fetchTouched s image strip) × (strip ≡ stripAfter s image strip))
+    kept h = let no : fetchTold s image strip .number ≡ 0 → ⊥ = λ z. h (rw as-told z) in (as-told, (sym (touched-refused no), sym (strip-refused no)))
 
     -- and where it does not, everything fits, and it is done with the bytes that are fetched
     pub all-fits : t .number ≡ 0 → Fits s (length image) (length strip)
     all-fits z = accepted (rw as-told at z)
 
-    pub all-fetched : {new : List ℕ} → t .number ≡ 0 → Filled (fetchedByte s image) 0 (stripLength (s .look)) strip new → (t ≡ fetchTold s image strip) × (new ≡ stripAfter s image strip)
-    all-fetched {new} z f = (as-told, filled-written (all-fits z .strip-long) f ∙ sym (strip-done (rw as-told at z)))
+    pub all-fetched : {new : List ℕ} {n : ℕ} → t .number ≡ 0 → n ≡ touchedBytes s → Filled (fetchedByte s image) 0 (stripLength (s .look)) strip new
+        → (t ≡ fetchTold s image strip) × ((n ≡ fetchTouched s image strip) × (new ≡ stripAfter s image strip))
+    all-fetched z e f = let d : fetchTold s image strip .number ≡ 0 = rw as-told at z in (as-told, (e ∙ sym (touched-done d), filled-written (all-fits z .strip-long) f ∙ sym (strip-done d)))

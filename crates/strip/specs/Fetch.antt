@@ -13,8 +13,7 @@ use Rattle.settings.specs.declared.Settings.{Settings}
 use Rattle.settings.specs.Modes.{width}
 use Rattle.settings.specs.Banks.{imagePlace, missing}
 use Rattle.settings.specs.Refusals.{pinsAbove, fastRate, imageLength, notSuited, shortStrip, stripLength}
-use Rattle.counter.specs.declared.Counter.{Counter}
-use Rattle.counter.specs.Counter.{bytesOn, addressOf}
+use Rattle.counter.specs.Counter.{addressOf}
 
 -- the place of byte c of line n
 abbrev pub placeOf : Settings → ℕ → ℕ → ℕ
@@ -29,10 +28,6 @@ fetchPlace s k = imagePlace s (fetchAddress s k)
 
 abbrev pub fetchedByte : Settings → List ℕ → ℕ → ℕ
 fetchedByte s image k = getD image (fetchPlace s k) 0
-
--- byte j of a line that starts with the counter c
-abbrev pub byteOn : Settings → List ℕ → Counter → ℕ → ℕ
-byteOn s image c j = getD image (imagePlace s (bytesOn s j c .address)) 0
 
 -- the strip index of the first fetch from a bank that an image of this length does not have, and 192 × W where there is none
 unfoldable pub firstMissing : Settings → ℕ → ℕ

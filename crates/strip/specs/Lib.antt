@@ -1,3 +1,4 @@
--- What fetching answers and leaves, and what the code behind it goes by.
+-- What fetching answers, leaves and reports, and what the code behind it goes by.
 pub mod Fetch
+pub mod Touched
 pub mod Steps

@@ -1,12 +1,12 @@
-// The strip of fetched bytes.
+// The strip of fetched bytes, and how many bytes of the image it touched.
 use answer::Answer;
 use answer::Spot;
-use counter::Counter;
 use settings::Look;
 use settings::Settings;
 ghost use mathlib.Core.Path.{_≡_};
 ghost use mathlib.Core.Bool.{true, false};
-ghost use Prim.Native.Nat.{_+_, _-_, _*_, _<_, _≤_, _/_};
+ghost use mathlib.Core.Logic.{_⊎_};
+ghost use Prim.Native.Nat.{_+_, _-_, _*_, _%_, _≤_};
 ghost use lib.ListN.{length, getD, replicate};
 ghost use Rattle.promises.specs.Told.{done};
 ghost use Rattle.promises.specs.Order.{firstOf, after};
@@ -15,11 +15,10 @@ ghost use Rattle.answer.specs.Told.{toldOf};
 ghost use Rattle.settings.specs.Modes.{width};
 ghost use Rattle.settings.specs.Banks.{suited, imagePlace, missing};
 ghost use Rattle.settings.specs.Refusals.{stripLength};
-ghost use Rattle.counter.specs.Counter.{bytesOn};
-ghost use Rattle.counter.specs.Steps.{endsCount};
-ghost use Rattle.counter.proofs.Runs.{Aligned};
-ghost use Rattle.strip.specs.Fetch.{byteOn, fetchedByte, firstMissing, notFittedAt, notFitted, fetchOrder, fetchTold, stripAfter};
-ghost use Rattle.strip.specs.Steps.{rowsLeft, LineFitted, Fitted};
+ghost use Rattle.counter.specs.Steps.{oneStretch};
+ghost use Rattle.strip.specs.Fetch.{fetchedByte, firstMissing, notFittedAt, notFitted, fetchOrder, fetchTold, stripAfter};
+ghost use Rattle.strip.specs.Steps.{rowsLeft, Fitted};
+ghost use Rattle.strip.specs.Touched.{touchedBytes, fetchTouched};
 
 // The active lines of a frame.
 const LINES: usize = 192;
@@ -86,15 +85,15 @@ fn place(settings: Settings, size: usize, address: u16) -> usize
     (address as usize) & (size - 1)
 }
 
-// The 16 bytes of the image from the place `from` on. A local array overlaps nothing lent, so it is filled by one move.
-fn run_at(image: &[u8], from: usize) -> [u8; 16]
-    requires { ⌜ from + 16 ≤ length (now image) ⌝ }
-    ensures { λ r. ⌜ Filled (λ j. getD (now (image .entry)) (from + j) 0) 0 16 (replicate 16 0) r ⌝ }
+// A run: the 16 bytes of a slice from the place `from` on. A local array overlaps nothing lent, so it is filled by one move.
+fn run_at(bytes: &[u8], from: usize) -> [u8; 16]
+    requires { ⌜ from + 16 ≤ length (now bytes) ⌝ }
+    ensures { λ r. ⌜ Filled (λ j. getD (now (bytes .entry)) (from + j) 0) 0 16 (replicate 16 0) r ⌝ }
 {
     let mut run = [0u8; 16];
     let mut j = 0;
     while j < 16 {
-        run[j] = image[from + j];
+        run[j] = bytes[from + j];
         j += 1;
     }
     run
@@ -112,83 +111,96 @@ fn put_run(run: &[u8; 16], strip: &mut [u8], at: usize)
     }
 }
 
-// Copies an aligned run of 16 bytes of the image, from the place `from` on, to the strip, from `at` on.
-fn copy_run(image: &[u8], from: usize, strip: &mut [u8], at: usize)
+// Reads an aligned run of 16 bytes of the image, from the place `from` on, into the strip, from `at` on. Hands back how many bytes it read.
+fn read_run(image: &[u8], from: usize, strip: &mut [u8], at: usize) -> usize
     requires { ⌜ (from + 16 ≤ length (now image)) × (at + 16 ≤ length (now strip)) ⌝ }
-    ensures { λ _. ⌜ Filled (λ k. getD (now (image .entry)) (from + (k - at)) 0) at (at + 16) (now (strip .entry)) (now (strip .exit)) ⌝ }
+    ensures { λ r. ⌜ r ≡ 16 ⌝ }
+    ensures { λ r. ⌜ Filled (λ k. getD (now (image .entry)) (from + (k - at)) 0) at (at + 16) (now (strip .entry)) (now (strip .exit)) ⌝ }
 {
     let run = run_at(image, from);
     put_run(&run, strip, at);
+    16
 }
 
-// Fetches a line of `runs` runs that starts with the counter `from`, to the strip from `at` on, and hands back the counter after it.
-fn line(
-    settings: Settings,
-    from: Counter,
-    runs: usize,
-    image: &[u8],
-    strip: &mut [u8],
-    at: usize,
-) -> Counter
-    requires { ⌜ (suited settings (length (now image)) ≡ true) × (Aligned from) × (runs ≤ 2) × (at + 16 * runs ≤ length (now strip)) × LineFitted settings (length (now image)) from (16 * runs) ⌝ }
-    ensures { λ r. ⌜ r ≡ bytesOn settings (16 * runs) from ⌝ }
-    ensures { λ r. ⌜ Filled (λ k. byteOn settings (now (image .entry)) from (k - at)) at (at + 16 * runs) (now (strip .entry)) (now (strip .exit)) ⌝ }
+// Reads a line that is one stretch of `wide` places, one run or two, from the place `from` on, in the same way.
+fn read_line(image: &[u8], from: usize, strip: &mut [u8], at: usize, wide: usize) -> usize
+    requires { ⌜ (from + wide ≤ length (now image)) × (at + wide ≤ length (now strip)) × ((wide ≡ 16) ⊎ (wide ≡ 32)) ⌝ }
+    ensures { λ r. ⌜ r ≡ wide ⌝ }
+    ensures { λ r. ⌜ Filled (λ k. getD (now (image .entry)) (from + (k - at)) 0) at (at + wide) (now (strip .entry)) (now (strip .exit)) ⌝ }
+{
+    let first = read_run(image, from, strip, at);
+    if wide == 16 {
+        return first;
+    }
+    first + read_run(image, from + 16, strip, at + 16)
+}
+
+// Makes the lines behind the one at `at`, up to `end`, like it. No image is lent: these lines are made from the strip.
+// Each run is that of the first line, and not of the line before, so that no load waits for a store.
+fn repeat_line(strip: &mut [u8], at: usize, wide: usize, end: usize)
+    requires { ⌜ ((wide ≡ 16) ⊎ (wide ≡ 32)) × (at % wide ≡ 0) × (end % wide ≡ 0) × (at + wide ≤ end) × (end ≤ length (now strip)) ⌝ }
+    ensures { λ _. ⌜ Filled (λ k. getD (now (strip .entry)) (at + k % wide) 0) (at + wide) end (now (strip .entry)) (now (strip .exit)) ⌝ }
+{
+    let mut to = at + wide;
+    while to < end {
+        let run = run_at(strip, at + (to & (wide - 1)));
+        put_run(&run, strip, to);
+        to += 16;
+    }
+}
+
+// Fetches the frame where each line is one stretch: it is read once, and the lines that have its places are made from the strip.
+// Hands back how many bytes of the image it read.
+fn stretches(settings: Settings, image: &[u8], strip: &mut [u8]) -> usize
+    requires { ⌜ (suited settings (length (now image)) ≡ true) × (192 * width (settings .look) ≤ length (now strip)) × Fitted settings (length (now image)) × (oneStretch settings ≡ true) ⌝ }
+    ensures { λ r. ⌜ r ≡ touchedBytes settings ⌝ }
+    ensures { λ r. ⌜ Filled (fetchedByte settings (now (image .entry))) 0 (192 * width (settings .look)) (now (strip .entry)) (now (strip .exit)) ⌝ }
 {
     let size = image.len();
-    let mut counter = from;
-    let mut n = 0;
-    while n < runs {
-        let run = place(settings, size, counter.address);
-        copy_run(image, run, strip, at + 16 * n);
-        counter = counter.carry(settings);
-        n += 1;
-    }
-    counter
-}
-
-// Fetches the frame's 192 lines, where nothing counts at any line's end.
-fn lines(settings: Settings, image: &[u8], strip: &mut [u8])
-    requires { ⌜ (suited settings (length (now image)) ≡ true) × (192 * width (settings .look) ≤ length (now strip)) × Fitted settings (length (now image)) × (endsCount settings ≡ false) ⌝ }
-    ensures { λ _. ⌜ Filled (fetchedByte settings (now (image .entry))) 0 (192 * width (settings .look)) (now (strip .entry)) (now (strip .exit)) ⌝ }
-{
     let wide = settings::width(settings.look);
-    let runs = wide / 16;
-    let mut counter = counter::start(settings);
+    let lasts = counter::line_lasts(settings);
+    let step = counter::line_step(settings);
+    let start = counter::start(settings);
+    let mut address = start.address;
+    let mut touched = 0;
     let mut n = 0;
     while n < LINES {
-        let end = line(settings, counter, runs, image, strip, n * wide);
-        counter = end.cleared(settings);
-        n += 1;
+        let from = place(settings, size, address);
+        touched += read_line(image, from, strip, n * wide, wide);
+        repeat_line(strip, n * wide, wide, (n + lasts) * wide);
+        address = std::num::wrapping_add_u16(address, step);
+        n += lasts;
     }
+    touched
 }
 
-// The same where the Y divider counts at each: a line has one run, and its end brings B0-B4 back to where they were.
-// The run is not copied by `line`: what two loops call is compiled as a call, which makes both slower.
-fn rows(settings: Settings, image: &[u8], strip: &mut [u8])
-    requires { ⌜ (suited settings (length (now image)) ≡ true) × (192 * width (settings .look) ≤ length (now strip)) × Fitted settings (length (now image)) × (endsCount settings ≡ true) ⌝ }
-    ensures { λ _. ⌜ Filled (fetchedByte settings (now (image .entry))) 0 (192 * width (settings .look)) (now (strip .entry)) (now (strip .exit)) ⌝ }
+// The same where it is not: two runs a line, each fetched X times on through the lines' ends, so that no line has the places of the one before.
+fn runs(settings: Settings, image: &[u8], strip: &mut [u8]) -> usize
+    requires { ⌜ (suited settings (length (now image)) ≡ true) × (192 * width (settings .look) ≤ length (now strip)) × Fitted settings (length (now image)) × (oneStretch settings ≡ false) ⌝ }
+    ensures { λ r. ⌜ r ≡ touchedBytes settings ⌝ }
+    ensures { λ r. ⌜ Filled (fetchedByte settings (now (image .entry))) 0 (192 * width (settings .look)) (now (strip .entry)) (now (strip .exit)) ⌝ }
 {
     let size = image.len();
     let mut counter = counter::start(settings);
-    let mut n = 0;
-    while n < LINES {
-        let run = place(settings, size, counter.address);
-        copy_run(image, run, strip, n * 16);
-        counter = counter.fall(settings);
-        n += 1;
+    let mut touched = 0;
+    while touched < LINES * 32 {
+        let from = place(settings, size, counter.address);
+        touched += read_run(image, from, strip, touched);
+        counter = counter.carry(settings);
     }
+    touched
 }
 
-// The 192 lines, however they end.
-fn all_lines(settings: Settings, image: &[u8], strip: &mut [u8])
+// The 192 lines, however they lie.
+fn all_lines(settings: Settings, image: &[u8], strip: &mut [u8]) -> usize
     requires { ⌜ (suited settings (length (now image)) ≡ true) × (192 * width (settings .look) ≤ length (now strip)) × Fitted settings (length (now image)) ⌝ }
-    ensures { λ _. ⌜ Filled (fetchedByte settings (now (image .entry))) 0 (192 * width (settings .look)) (now (strip .entry)) (now (strip .exit)) ⌝ }
+    ensures { λ r. ⌜ r ≡ touchedBytes settings ⌝ }
+    ensures { λ r. ⌜ Filled (fetchedByte settings (now (image .entry))) 0 (192 * width (settings .look)) (now (strip .entry)) (now (strip .exit)) ⌝ }
 {
-    if counter::ends_count(settings) {
-        rows(settings, image, strip);
-    } else {
-        lines(settings, image, strip);
+    if counter::one_stretch(settings) {
+        return stretches(settings, image, strip);
     }
+    runs(settings, image, strip)
 }
 
 // The answer, by the settings and the lengths of what is lent.
@@ -205,15 +217,22 @@ fn length_answer(settings: Settings, image: usize, strip: usize) -> Answer
     not_fitted_at(answer, look, first_missing(settings, image))
 }
 
+// What fetching answers, and how many bytes of the image it touched.
+pub struct Fetching {
+    pub answer: Answer,
+    pub touched: usize,
+}
+
 // Fetches the strip of a frame: 192 lines of W bytes, in fetched order, repeats included.
-pub fn fetch(settings: Settings, image: &[u8], strip: &mut [u8]) -> Answer
-    ensures answer { λ r. ⌜ toldOf r ≡ fetchTold settings (now (image .entry)) (now (strip .entry)) ⌝ }
+pub fn fetch(settings: Settings, image: &[u8], strip: &mut [u8]) -> Fetching
+    ensures answer { λ r. ⌜ toldOf (r .answer) ≡ fetchTold settings (now (image .entry)) (now (strip .entry)) ⌝ }
+    ensures count { λ r. ⌜ r .touched ≡ fetchTouched settings (now (image .entry)) (now (strip .entry)) ⌝ }
     ensures bytes { λ r. ⌜ now (strip .exit) ≡ stripAfter settings (now (image .entry)) (now (strip .entry)) ⌝ }
 {
     let answer = length_answer(settings, image.len(), strip.len());
     if answer::number(answer) != 0 {
-        return answer;
+        return Fetching { answer, touched: 0 };
     }
-    all_lines(settings, image, strip);
-    answer
+    let touched = all_lines(settings, image, strip);
+    Fetching { answer, touched }
 }

@@ -1,4 +1,5 @@
-// Tries fetching: the addresses of document 01's figures, each refusal, buffers of all lengths, and whole strips by their sums; then rule 2, and the banks of an image.
+// Tries fetching: the addresses of document 01's figures, each refusal, buffers of all lengths, and whole strips by their sums; then rule 2, the banks of an image,
+// and how many image bytes are touched.
 // Prints a line for each.
 use counter::Counter;
 use settings::Settings;
@@ -12,6 +13,7 @@ use trial::least;
 use trial::mark;
 use trial::one;
 use trial::rule_name;
+use trial::say;
 use trial::settings_of;
 use trial::sum;
 use trial::unchanged_from;
@@ -138,14 +140,18 @@ fn fetch(word: usize, pins: usize, rule: usize, image: usize, strip: usize, byte
     let mut buffer = [0u8; 8192];
     mark(&mut buffer);
     let settings = settings_of(word, pins, rule);
-    let a = strip::fetch(settings, cut(bytes, image), room(&mut buffer, strip));
+    let f = strip::fetch(settings, cut(bytes, image), room(&mut buffer, strip));
+    let a = f.answer;
     rule_name(rule);
     form(
         b"fetch word $ pins % image # strip #",
         &[word, pins, image, strip],
     );
     answered(a);
-    one(b", strip kept from #\n", unchanged_from(&buffer));
+    form(
+        b", touched #, strip kept from #\n",
+        &[f.touched, unchanged_from(&buffer)],
+    );
 }
 
 // The refusals of fetching in their order, but for 16 and 17, each with later conditions holding too, or alone.
@@ -196,14 +202,16 @@ fn strips_2(image: &[u8]) {
 
 // == Whole strips by their sums.
 
-// Fetches the strip of an image as long as told, and prints its sum.
+// Fetches the strip of an image as long as told, and prints how many bytes are touched, and its sum.
 fn strip_sum(word: usize, pins: usize, rule: usize, image: usize, bytes: &[u8]) {
     let mut strip = [0u8; 6144];
-    let a = strip::fetch(settings_of(word, pins, rule), cut(bytes, image), &mut strip);
+    let f = strip::fetch(settings_of(word, pins, rule), cut(bytes, image), &mut strip);
+    let a = f.answer;
     rule_name(rule);
     form(b"strip word $ pins % image #", &[word, pins, image]);
     answered(a);
-    one(b", sum #\n", sum(cut(&strip, answer::value(a))));
+    let sum = sum(cut(&strip, answer::value(a)));
+    form(b", touched #, sum #\n", &[f.touched, sum]);
 }
 
 // Every SAM mode from a word on.
@@ -323,7 +331,59 @@ fn bits(bytes: &[u8]) {
     strip_sum(0x8C00, 0x20, 1, 65536, bytes);
 }
 
-// All of them: rule 1, rule 2, and the banks.
+// == How many image bytes are touched, of each SAM mode in one line; none where the window is refused.
+
+// How many are touched in an image as long as told.
+fn touched(word: usize, pins: usize, rule: usize, image: usize, bytes: &[u8]) -> usize {
+    let mut strip = [0u8; 6144];
+    let f = strip::fetch(settings_of(word, pins, rule), cut(bytes, image), &mut strip);
+    f.touched
+}
+
+// Every SAM mode from a word on.
+fn counts(word: usize, pins: usize, rule: usize, image: usize, bytes: &[u8])
+    requires { ⌜ word < 65536 ⌝ }
+{
+    rule_name(rule);
+    form(b"touched word $ pins % image #:", &[word, pins, image]);
+    let mut mode: usize = 0;
+    while mode < 8 {
+        one(b" #", touched(word + mode, pins, rule, image, bytes));
+        mode += 1;
+    }
+    say(b"\n");
+}
+
+// Each M1, M0 but 10, with each length that is suited to it: boards with one bank from a bank that is fitted on, and others from 512 bytes before FFFF is passed.
+fn windows(pins: usize, rule: usize, bytes: &[u8]) {
+    counts(0x0080, pins, rule, 4096, bytes);
+    counts(0x03F8, pins, rule, 8192, bytes);
+    counts(0x2200, pins, rule, 16384, bytes);
+    counts(0x23F8, pins, rule, 32768, bytes);
+    counts(0x63F8, pins, rule, 65536, bytes);
+}
+
+// Text, internal and external, and each graphics mode, then rule 2, and starts from which some SAM modes come to a bank that is not fitted.
+fn all_counts(bytes: &[u8]) {
+    windows(0x00, 1, bytes);
+    windows(0x10, 1, bytes);
+    windows(0x20, 1, bytes);
+    windows(0x22, 1, bytes);
+    windows(0x24, 1, bytes);
+    windows(0x26, 1, bytes);
+    windows(0x28, 1, bytes);
+    windows(0x2A, 1, bytes);
+    windows(0x2C, 1, bytes);
+    windows(0x2E, 1, bytes);
+    windows(0x20, 2, bytes);
+    counts(0x0038, 0x20, 1, 4096, bytes);
+    counts(0x0038, 0x20, 2, 4096, bytes);
+    counts(0x20D0, 0x20, 2, 16384, bytes);
+    counts(0x20D0, 0x2E, 1, 16384, bytes);
+    counts(0x20D0, 0x2E, 2, 16384, bytes);
+}
+
+// All of them: rule 1, rule 2, the banks, and what is touched.
 fn fetches(low: &[u8], high: &[u8], varied: &[u8]) {
     addresses(low, high);
     refusals(low);
@@ -340,6 +400,7 @@ fn fetches(low: &[u8], high: &[u8], varied: &[u8]) {
     not_fitted(low);
     fitted(varied);
     bits(varied);
+    all_counts(varied);
 }
 
 // Two images that tell the low and the high bytes of their addresses, and one in which no two rows or columns of a chip are alike.

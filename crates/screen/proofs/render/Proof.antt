@@ -56,7 +56,7 @@ returns c =
     let d = c .before .before .before .before in
     let i = start-of d in
     let a = i .args in
-    shown-kept (a .settings) (now (a .image)) (now (a .font)) (now (a .strip)) (now (a .frame)) (i .pre) room (long (a .settings)) (fetch-of d .fetch .ensures .1) (d .draw .ensures .0) (d .draw .ensures .1)
+    shown-kept (a .settings) (now (a .image)) (now (a .font)) (now (a .strip)) (now (a .frame)) (i .pre) room (long (a .settings)) (fetch-of d .fetch .ensures .1 .1) (d .draw .ensures .0) (d .draw .ensures .1)
     (λ z. c .if1 .taken (c .before .number .ensures ∙ z))
 
 slice-aggregate-store : tie.Need-slice-aggregate-store
@@ -80,7 +80,7 @@ returns-2 c =
     let d = e .before .before .before .before in
     let i = start-of d in
     let a = i .args in
-    let f = fetch-of d .fetch .ensures .1 in
+    let f = fetch-of d .fetch .ensures .1 .1 in
     let kept = stored (fetchedByte (a .settings) (now (a .image))) (stripLength (a .settings .look)) (fetch-of d .fetch .last .1 .1 .0) (now (a .strip)) (c .before .before .before .before .strip-length .ensures) (omega (arith, ap (λ (x : List ℕ). length x) f, fetched-long d)) (strip-long (a .settings) (now (a .image)) (now (a .font)) (now (a .strip)) (now (a .frame)) (i .pre)) (λ k h. ap (λ (x : List ℕ). getD x k 0) f ∙ fetched-byte (a .settings) (now (a .image)) (now (a .font)) (now (a .strip)) (now (a .frame)) (i .pre) room (long (a .settings)) k h) (c .before .before .store .ensures) in
     shown-stored (a .settings) (now (a .image)) (now (a .font)) (now (a .strip)) (now (a .frame)) (i .pre) room (long (a .settings)) f (d .draw .ensures .0) (d .draw .ensures .1)
     (sym (e .before .number .ensures) ∙ e .if1 .left) kept

@@ -5,29 +5,29 @@ use Rattle.strip.proofs.all_lines.Statement.{statement}
 use Rattle.strip.proofs.all_lines.Tie as tie
 
 -- where the function starts
-abbrev start-of : tie.After-ends-count → tie.Start
+abbrev start-of : tie.After-one-stretch → tie.Start
 start-of c = c .before .before .before
 
-ends-count-requires : tie.Need-ends-count-requires
-ends-count-requires c κs = search needs
+one-stretch-requires : tie.Need-one-stretch-requires
+one-stretch-requires c κs = search needs
 
-rows-requires : tie.Need-rows-requires
-rows-requires c κs =
+stretches-requires : tie.Need-stretches-requires
+stretches-requires c κs =
     let p = c .before .before in
     let b = start-of p in
-    (b .pre .0, b .pre .1, b .pre .2, sym (p .ends-count .ensures) ∙ c .before .if1 .taken)
-
-lines-requires : tie.Need-lines-requires
-lines-requires c κs =
-    let p = c .before .before in
-    let b = start-of p in
-    (b .pre .0, b .pre .1, b .pre .2, sym (p .ends-count .ensures) ∙ c .before .if1 .left)
+    (b .pre .0, b .pre .1, b .pre .2, sym (p .one-stretch .ensures) ∙ c .before .if1 .taken)
 
 same-length : tie.Need-same-length
 same-length c = search needs
 
 returns : tie.Need-returns
 returns c = search needs
+
+runs-requires : tie.Need-runs-requires
+runs-requires c κs =
+    let p = c .before .before in
+    let b = start-of p in
+    (b .pre .0, b .pre .1, b .pre .2, sym (p .one-stretch .ensures) ∙ c .before .if1 .left)
 
 same-length-2 : tie.Need-same-length-2
 same-length-2 c = search needs
@@ -36,13 +36,4 @@ returns-2 : tie.Need-returns-2
 returns-2 c = search needs
 
 pub all-lines-spec : {M : Type 1} → statement M
-all-lines-spec =
-    tie.close
-    (tie.spec
-    ends-count-requires
-    rows-requires
-    lines-requires
-    same-length
-    returns
-    same-length-2
-    returns-2)
+all-lines-spec = tie.close (tie.spec one-stretch-requires stretches-requires same-length returns runs-requires same-length-2 returns-2)

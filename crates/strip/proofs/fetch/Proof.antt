@@ -38,7 +38,7 @@ returns-2 : tie.Need-returns-2
 returns-2 c =
     let e = c .before .before .before .before in
     let b = start-of (e .before) in
-    all-fetched (b .args .settings) (now (b .args .image)) (now (b .args .strip)) (e .before .before .length-answer .ensures) (passed e) (c .before .before .all-lines .ensures)
+    all-fetched (b .args .settings) (now (b .args .image)) (now (b .args .strip)) (e .before .before .length-answer .ensures) (passed e) (c .before .before .all-lines .ensures .0) (c .before .before .all-lines .ensures .1)
 
 pub fetch-spec : {M : Type 1} → statement M
 fetch-spec =

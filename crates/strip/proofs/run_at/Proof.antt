@@ -9,10 +9,10 @@ use Rattle.strip.proofs.run_at.Statement.{statement}
 use Rattle.strip.proofs.run_at.Tie as tie
 
 abbrev Inv-loop : tie.InvT-loop
-Inv-loop image from run₀ j₀ run j = (j ≤ 16) × Filled (λ (k : ℕ). getD image (from + k) 0) 0 j run₀ run
+Inv-loop bytes from run₀ j₀ run j = (j ≤ 16) × Filled (λ (k : ℕ). getD bytes (from + k) 0) 0 j run₀ run
 
 abbrev μ-loop : tie.MeasureT-loop
-μ-loop image from run₀ j₀ run j = 16 - j
+μ-loop bytes from run₀ j₀ run j = 16 - j
 
 loop-holds : tie.Need-loop-holds Inv-loop μ-loop
 loop-holds c = (omega arith, none _ _ _)
