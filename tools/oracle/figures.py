@@ -1,7 +1,8 @@
-"""Figures to check by: document 01's own, figures of CR 1 counted by hand, the case of CR 2 with what it says of the other letters, figures of CR 5 counted by hand, the case of CR 6 with sheets and addresses counted by hand, figures of CR 7 and of CR 8 counted by hand, and those of the standards that a picture file goes by, held against these modules."""
+"""Figures to check by: document 01's own, figures of CR 1 counted by hand, the case of CR 2 with what it says of the other letters, figures of CR 5 counted by hand, the case of CR 6 with sheets and addresses counted by hand, figures of CR 7, of CR 8 and of CR 9 counted by hand, and those of the standards that a picture file goes by, held against these modules."""
 
 import zlib
 
+import canvas
 import cover
 import draw
 import fetch
@@ -524,6 +525,199 @@ def touched_refused():
         yield "refused", (asked, told, count(*asked)), (asked, number, said)
 
 
+# CR 9: rectangles of a frame of question marks, as left, top, across, down: ABC over DEF from column 7, line 5 on, and 12 over 34 in its last corner.
+ABC = (7, 5, 3, 2)
+LAST = (254, 190, 2, 2)
+MARKS = (7001, 9001)
+
+
+def plan_frame(length):
+    """The frame, cut short or with more question marks behind it."""
+    frame = bytearray(b"?") * 49152
+    for place, row in ((1287, b"ABC"), (1543, b"DEF"), (48894, b"12"), (49150, b"34")):
+        frame[place:place + len(row)] = row
+    return (frame + b"?" * 8)[:length]
+
+
+def lay_on(size, *placements, frame_length=49152, room=None):
+    """Placements, as rectangle, x and y, laid on a canvas of dots: what is told, the counts of each entry, which has marks before, and the canvas."""
+    dots = bytearray(b".") * (size[0] * size[1] if room is None else room)
+    entries = [canvas.Placement(*rectangle, x, y, *MARKS) for rectangle, x, y in placements]
+    answer = canvas.lay(plan_frame(frame_length), entries, *size, dots)
+    return answer, [(entry.on, entry.cut) for entry in entries], dots
+
+
+def picture_of(size, *placements):
+    """The same with the canvas as it looks, line by line."""
+    answer, counts, dots = lay_on(size, *placements)
+    return answer, counts, " ".join(dots[at:at + size[0]].decode() for at in range(0, len(dots), size[0]))
+
+
+def places_of(size, *placements):
+    """The same with the places of the canvas that are no longer dots, for canvases that are too large to look at."""
+    answer, counts, dots = lay_on(size, *placements)
+    return answer, counts, [(place, chr(byte)) for place, byte in enumerate(dots) if byte != ord(".")]
+
+
+# CR 9: where the corner of ABC over DEF goes on a canvas of 4 by 3, the pixels on it and cut, and the canvas.
+CORNERS = (
+    ((0, 0), (6, 0), "ABC. DEF. ...."),
+    ((1, 1), (6, 0), ".... .ABC .DEF"),
+    ((-1, 0), (4, 2), "BC.. EF.. ...."),  # the left edge
+    ((-2, 1), (2, 4), ".... C... F..."),
+    ((2, 0), (4, 2), "..AB ..DE ...."),  # the right edge
+    ((3, 1), (2, 4), ".... ...A ...D"),
+    ((0, -1), (3, 3), "DEF. .... ...."),  # the top edge
+    ((1, 2), (3, 3), ".... .... .ABC"),  # the bottom edge
+    ((-1, -1), (2, 4), "EF.. .... ...."),  # the four corners
+    ((-2, -1), (1, 5), "F... .... ...."),
+    ((2, -1), (2, 4), "..DE .... ...."),
+    ((3, -1), (1, 5), "...D .... ...."),
+    ((-1, 2), (2, 4), ".... .... BC.."),
+    ((-2, 2), (1, 5), ".... .... C..."),
+    ((2, 2), (2, 4), ".... .... ..AB"),
+    ((3, 2), (1, 5), ".... .... ...A"),
+)
+
+# CR 9: corners from which all of it falls off: just past each edge, past two edges, and as far as a position goes.
+OFF = (
+    (-3, 0), (4, 0), (0, -2), (0, 3),
+    (-3, -2), (4, -2), (-3, 3), (4, 3),
+    (-32768, 0), (32767, 0), (0, -32768), (0, 32767),
+    (-32768, -32768), (32767, -32768), (-32768, 32767), (32767, 32767),
+)
+
+
+def canvas_cuts():
+    """CR 9: a rectangle cut at each edge and corner, at two edges that face each other, and wholly off; on it and cut are the area."""
+    for corner, counts, said in CORNERS:
+        yield "cut", (corner, picture_of((4, 3), (ABC, *corner))), (corner, ((0, 0, 0), [counts], said))
+    for corner in OFF:
+        yield "off", (corner, picture_of((4, 3), (ABC, *corner))), (corner, ((0, 0, 0), [(0, 6)], ".... .... ...."))
+    for size, corner, counts, said in (
+        ((1, 1), (-1, -1), (1, 5), "E"),
+        ((1, 1), (-2, 0), (1, 5), "C"),
+        ((1, 3), (-1, 1), (2, 4), ". B E"),
+        ((4, 1), (1, -1), (3, 3), ".DEF"),
+        ((2, 2), (-1, 0), (4, 2), "BC EF"),
+    ):
+        yield "edges that face", (size, corner, picture_of(size, (ABC, *corner))), (size, corner, ((0, 0, 0), [counts], said))
+    yield "one line of it", picture_of((4, 3), ((7, 6, 2, 1), 3, 0)), ((0, 0, 0), [(1, 1)], "...D .... ....")
+    yield "one column of it", picture_of((4, 3), ((9, 5, 1, 2), 0, -1)), ((0, 0, 0), [(1, 1)], "F... .... ....")
+
+
+def canvas_layers():
+    """CR 9: later placements cover earlier ones, whose covered pixels still count as on the canvas; the frame's last pixels; none at all."""
+    yield "12 over ABC", picture_of((4, 3), (ABC, 0, 0), (LAST, 1, 1)), ((0, 0, 0), [(6, 0), (4, 0)], "ABC. D12. .34.")
+    yield "ABC over 12", picture_of((4, 3), (LAST, 1, 1), (ABC, 0, 0)), ((0, 0, 0), [(4, 0), (6, 0)], "ABC. DEF. .34.")
+    yield "covered wholly", picture_of((4, 3), (LAST, 1, 0), (ABC, 0, 0)), ((0, 0, 0), [(4, 0), (6, 0)], "ABC. DEF. ....")
+    yield "twice the same", picture_of((4, 3), (ABC, 2, 2), (ABC, 2, 2)), ((0, 0, 0), [(2, 4), (2, 4)], ".... .... ..AB")
+    yield "beside each other", picture_of((4, 3), (LAST, -1, 0), (ABC, 1, 0)), ((0, 0, 0), [(2, 2), (6, 0)], "2ABC 4DEF ....")
+    yield "three", picture_of((4, 3), (ABC, 0, 1), (LAST, 2, 0), (ABC, -1, -1)), ((0, 0, 0), [(6, 0), (4, 0), (2, 4)], "EF12 AB34 DEF.")
+    yield "one off between", picture_of((4, 3), (ABC, 0, 0), (ABC, 4, 0), (LAST, 0, 0)), ((0, 0, 0), [(6, 0), (0, 6), (4, 0)], "12C. 34F. ....")
+    yield "the last pixel", picture_of((4, 3), ((255, 191, 1, 1), 3, 2)), ((0, 0, 0), [(1, 0)], ".... .... ...4")
+    yield "none at all", picture_of((4, 3)), ((0, 0, 0), [], ".... .... ....")
+    singles = [((7, 5, 1, 1), column, 0) for column in range(32)]
+    yield "32 placements", picture_of((33, 1), *singles), ((0, 0, 0), [(1, 0)] * 32, "A" * 32 + ".")
+
+
+def canvas_sizes():
+    """CR 9: canvases of one column and of one line that are as large as may be, and the whole frame of 256 by 192 with its 49,152 pixels."""
+    for corner, counts, places in (
+        ((0, 32767), (2, 4), [(32767, "A"), (32768, "D")]),
+        ((-2, 32767), (2, 4), [(32767, "C"), (32768, "F")]),
+        ((-1, -1), (1, 5), [(0, "E")]),
+        ((1, 32767), (0, 6), []),
+        ((0, -32768), (0, 6), []),
+    ):
+        yield "1 by 65,536", (corner, places_of((1, 65536), (ABC, *corner))), (corner, ((0, 0, 0), [counts], places))
+    for corner, counts, places in (
+        ((32767, 0), (3, 3), [(32767, "A"), (32768, "B"), (32769, "C")]),
+        ((32767, -1), (3, 3), [(32767, "D"), (32768, "E"), (32769, "F")]),
+        ((-1, 0), (2, 4), [(0, "B"), (1, "C")]),
+        ((32767, 1), (0, 6), []),
+        ((-32768, 0), (0, 6), []),
+    ):
+        yield "65,536 by 1", (corner, places_of((65536, 1), (ABC, *corner))), (corner, ((0, 0, 0), [counts], places))
+    for size, corner, counts in (
+        ((256, 192), (0, 0), (49152, 0)),
+        ((256, 256), (0, 64), (49152, 0)),
+        ((256, 256), (0, 65), (48896, 256)),  # its last line is cut
+        ((256, 256), (-1, 0), (48960, 192)),  # its first column
+        ((256, 192), (255, 191), (1, 49151)),
+        ((256, 192), (-255, -191), (1, 49151)),
+        ((256, 192), (-256, 0), (0, 49152)),
+        ((16, 16), (-100, -100), (256, 48896)),
+    ):
+        yield "the whole frame", (size, corner, lay_on(size, ((0, 0, 256, 192), *corner))[:2]), (size, corner, ((0, 0, 0), [counts]))
+    canvas_as_frame = lay_on((256, 192), ((0, 0, 256, 192), 0, 0))[2]
+    yield "the frame on a canvas of its size", canvas_as_frame == plan_frame(49152), True
+
+
+def refusal_of(size, *placements, frame_length=49152, room=None):
+    """What is told of placements, and whether every entry and the canvas were kept."""
+    answer, counts, dots = lay_on(size, *placements, frame_length=frame_length, room=room)
+    return answer, counts == [MARKS] * len(placements) and dots == bytearray(b".") * len(dots)
+
+
+def canvas_unfit():
+    """CR 9: 18 for a canvas that has a pixel less or more than its sides say, a side of 0, or more than 65,536; other shapes of as many pixels are right."""
+    for size, room in (
+        ((4, 3), 11), ((4, 3), 13), ((4, 3), 0),
+        ((0, 3), 0), ((4, 0), 0), ((0, 0), 0), ((0, 3), 3), ((4, 0), 4),
+        ((65537, 1), 65537), ((1, 65537), 65537), ((256, 257), 65792), ((65536, 2), 65536),
+        ((2 ** 32, 2 ** 32), 0),  # 2^64 pixels
+        ((2 ** 64 - 1, 2 ** 64 - 1), 1),  # 2^128 - 2^65 + 1
+        ((2 ** 56 + 256, 256), 65536),  # 2^64 + 65,536
+    ):
+        yield "18", (size, room, refusal_of(size, (ABC, 0, 0), room=room)), (size, room, ((18, 0, 0), True))
+    for size in ((4, 3), (3, 4), (12, 1), (1, 12), (256, 256), (65536, 1), (1, 65536), (2, 32768)):
+        yield "a right canvas", (size, refusal_of(size)), (size, ((0, 0, 0), True))
+
+
+def canvas_outside():
+    """CR 9: 20 for a rectangle that is empty or reaches outside the frame, wherever it goes, with the index of the first such placement."""
+    for rectangle in (
+        (7, 5, 0, 2), (7, 5, 3, 0), (7, 5, 0, 0), (0, 0, 0, 192), (255, 191, 0, 1),
+        (254, 5, 3, 2), (253, 5, 4, 2), (256, 5, 1, 1), (0, 0, 257, 1), (1, 0, 256, 1),
+        (7, 191, 3, 2), (7, 190, 3, 3), (7, 192, 1, 1), (0, 0, 1, 193), (0, 1, 1, 192),
+        (300, 200, 3, 2), (2 ** 64 - 1, 0, 1, 1), (2 ** 64 - 1, 0, 2, 1), (0, 2 ** 64 - 1, 1, 1), (0, 2 ** 64 - 1, 1, 2),
+        (0, 0, 2 ** 64 - 1, 1), (0, 0, 1, 2 ** 64 - 1), (1, 0, 2 ** 64 - 1, 1), (0, 0, 2 ** 32, 2 ** 32),
+    ):
+        for corner in ((0, 0), (-32768, 32767)):
+            yield "20", (rectangle, corner, refusal_of((4, 3), (rectangle, *corner))), (rectangle, corner, ((20, 0, 0), True))
+    bad = ((254, 5, 3, 2), 0, 0)
+    for count, places, said in ((2, (1,), 1), (4, (1, 3), 1), (4, (3, 2), 2), (32, (31,), 31), (32, (0, 31), 0)):
+        placements = [bad if k in places else (ABC, 0, 0) for k in range(count)]
+        yield "20 at its place", (count, places, refusal_of((4, 3), *placements)), (count, places, ((20, said, 0), True))
+    for rectangle in ((254, 5, 2, 2), (7, 190, 3, 2), (255, 191, 1, 1), (0, 0, 256, 1), (0, 0, 1, 192), (0, 0, 256, 192)):
+        yield "within the frame", (rectangle, lay_on((4, 3), (rectangle, 0, 0))[0]), (rectangle, (0, 0, 0))
+
+
+def canvas_order():
+    """CR 9: 8, 18, 19 and 20, each before those after it, and alone; a frame that is longer, and lists of 32 and of none."""
+    good, bad = (ABC, 0, 0), ((7, 5, 0, 2), 0, 0)
+    few, many, worse = [good], [good] * 33, [good] * 30 + [bad] * 3
+    for said, size, placements, frame_length, room in (
+        (8, (0, 3), worse, 49151, 12),
+        (8, (4, 3), few, 49151, 12),
+        (8, (4, 3), few, 0, 12),
+        (8, (4, 3), [], 49151, 12),
+        (18, (0, 3), worse, 49152, 12),
+        (18, (4, 3), [bad], 49152, 11),
+        (18, (4, 3), [], 49152, 11),
+        (19, (4, 3), worse, 49152, 12),
+        (19, (4, 3), many, 49152, 12),
+    ):
+        asked = (size, len(placements), frame_length, room)
+        yield "order", (asked, refusal_of(size, *placements, frame_length=frame_length, room=room)), (asked, ((said, 0, 0), True))
+    yield "20 last", refusal_of((4, 3), *worse[:31]), ((20, 30, 0), True)
+    for frame_length in (49152, 49153, 49160):
+        found = lay_on((4, 3), good, frame_length=frame_length)
+        yield "a whole frame", (frame_length, found), (frame_length, ((0, 0, 0), [(6, 0)], bytearray(b"ABC.DEF.....")))
+    yield "32 are laid", lay_on((4, 3), *many[:32]), ((0, 0, 0), [(6, 0)] * 32, bytearray(b"ABC.DEF....."))
+
+
 def checks():
     """The check values of CRC-32 and Adler-32, and the last chunk, which is the same in every PNG file."""
     yield "CRC-32 of 123456789", zlib.crc32(b"123456789"), 0xCBF43926
@@ -592,6 +786,7 @@ CHAPTERS = {
     "CR 6": (rule_addresses, rule_sheets),
     "CR 7": (suited_lengths, image_places, not_fitted, missing_shown),
     "CR 8": (touched_modes, touched_boards, touched_lines, touched_starts, touched_refused),
+    "CR 9": (canvas_cuts, canvas_layers, canvas_sizes, canvas_unfit, canvas_outside, canvas_order),
     "the picture file": (checks, picture_files),
 }
 

@@ -1,5 +1,8 @@
 """What each trial program prints: its questions are read off crates/NAME/src/main.rt, the answers come from the chapters."""
 
+from dataclasses import replace
+
+import canvas
 import chips
 import cover
 import draw
@@ -863,6 +866,199 @@ def try_chip():
     yield twice_line()
 
 
+# == try_canvas
+
+# The greatest number that the program's fields hold, and the length of its lists.
+GREATEST = 18446744073709551615
+LIST = 33
+
+
+def at(left, top, across, down, x, y):
+    """A placement with marks for its counts."""
+    return canvas.Placement(left, top, across, down, x, y, 7001, 9001)
+
+
+def entry(placement):
+    """What is printed of an entry."""
+    rectangle = "%d %d %d %d" % (placement.left, placement.top, placement.across, placement.down)
+    return ", [%s at %d %d on %d cut %d]" % (rectangle, placement.x, placement.y, placement.on, placement.cut)
+
+
+def lay_line(placements, width, height, size, frame=49152, count=1):
+    """Lays the first `count` of a list on a marked canvas. Entries past the list's end are as they were."""
+    before = (placements * LIST)[:LIST]
+    after = [replace(placement) for placement in before]
+    buffer, pixels = mark(65800), vary(49200)[:frame]
+    answer = canvas.lay(pixels, after[:count], width, height, room(buffer, size))
+    line = "lay %d on %d by %d canvas %d frame %d" % (count, width, height, size, frame) + told(answer)
+    line += "".join(entry(placement) for placement in after[:count])
+    kept = sum(1 for one, other in zip(before[count:], after[count:]) if one == other)
+    return line + ", rest kept %d, sum %d, kept from %d" % (kept, total(buffer), kept_from(buffer))
+
+
+def plan_line(width, height, size, x, y):
+    """A rectangle of 9 by 7, from a corner on."""
+    return lay_line([at(30, 40, 9, 7, x, y)], width, height, size)
+
+
+def whole_line(width, height, size, x, y):
+    """The whole frame, from a corner on."""
+    return lay_line([at(0, 0, 256, 192, x, y)], width, height, size)
+
+
+# Corners on a canvas of 20 by 12: cut at no edge, at each edge and at each corner, down to the pixel in it that is left; then wholly off: just past each edge, and as far as a position goes.
+EDGES = (
+    (5, 3), (0, 0), (11, 5),
+    (-4, 3), (15, 3), (5, -2), (5, 9),
+    (-4, -2), (-8, -6), (15, -2), (19, -6), (-4, 9), (-8, 11), (15, 9), (19, 11),
+    (-9, 3), (20, 3), (5, -7), (5, 12),
+    (-32768, 3), (32767, 3), (5, -32768), (5, 32767), (-32768, 32767), (32767, -32768),
+)
+
+
+def shapes_lines():
+    """Canvases of one column, of one line and of one pixel, others that are narrower than what is laid, and the whole frame on some as large as it and larger."""
+    yield plan_line(1, 65536, 65536, 0, 32767)
+    yield plan_line(1, 65536, 65536, -8, -6)
+    yield whole_line(1, 65536, 65536, -4, 32767)
+    yield plan_line(65536, 1, 65536, 32767, 0)
+    yield plan_line(65536, 1, 65536, -8, -6)
+    yield whole_line(65536, 1, 65536, 32767, -4)
+    yield plan_line(2, 32768, 65536, -3, 32767)
+    yield plan_line(32768, 2, 65536, 32767, -3)
+    yield plan_line(1, 1, 1, -8, -6)
+    yield whole_line(1, 1, 1, -255, -191)
+    yield whole_line(5, 65, 325, -20, 3)
+    yield whole_line(256, 192, 49152, 0, 0)
+    yield whole_line(256, 256, 65536, 0, 0)
+    yield whole_line(256, 256, 65536, 0, 64)
+    yield whole_line(256, 256, 65536, -1, 65)
+    yield whole_line(256, 192, 49152, 255, -191)
+    yield whole_line(256, 192, 49152, -256, 0)
+
+
+# Canvases, as their sides and how many bytes are lent: a pixel less or more than the sides say, a side of 0, or more than 65,536 pixels, and right ones among them; then sides whose product is past 64 bits, where it would come round to what is lent.
+CANVASES = (
+    (20, 12, 239), (20, 12, 241), (20, 12, 0), (12, 20, 240),
+    (0, 12, 0), (20, 0, 0), (0, 12, 12), (20, 0, 20),
+    (65537, 1, 65537), (1, 65537, 65537), (256, 257, 65792), (256, 256, 65536),
+    (2 ** 32, 2 ** 32, 0), (2 ** 63, 2, 0), (GREATEST, GREATEST, 1), (2 ** 56 + 256, 256, 65536),
+    (GREATEST, 1, 240), (1, GREATEST, 240),
+)
+
+# Rectangles that are empty, one column or one line outside, and within the frame up to its last pixel; then some so large, or so far, that left and across, or top and down, would come round.
+RECTANGLES = (
+    (30, 40, 0, 7), (30, 40, 9, 0), (256, 192, 0, 0),
+    (250, 40, 7, 7), (250, 40, 6, 7), (256, 40, 1, 1), (0, 0, 257, 192),
+    (30, 190, 9, 3), (30, 190, 9, 2), (30, 192, 1, 1), (0, 0, 256, 193),
+    (254, 190, 2, 2), (300, 200, 9, 7),
+    (GREATEST, 0, 1, 1), (GREATEST, 0, 2, 1), (0, GREATEST, 1, 1), (0, GREATEST, 1, 2),
+    (0, 0, GREATEST, 1), (1, 0, GREATEST, 1), (0, 0, 1, GREATEST), (0, 1, 1, GREATEST),
+    (0, 0, 2 ** 32, 2 ** 32),
+)
+
+
+def list_line(placements, count):
+    """The first `count` of a list, on a canvas of 64 by 48."""
+    return lay_line(placements, 64, 48, 3072, count=count)
+
+
+def layers_lines():
+    """Later placements cover earlier ones: in part, either over the other, wholly, where both are cut, and not where they are off."""
+    for first, second in (
+        ((30, 40, 9, 7, 2, 2), (90, 80, 6, 8, 7, 1)),
+        ((90, 80, 6, 8, 7, 1), (30, 40, 9, 7, 2, 2)),
+        ((90, 80, 4, 4, 4, 3), (30, 40, 9, 7, 2, 2)),
+        ((30, 40, 9, 7, 2, 2), (30, 40, 9, 7, 2, 2)),
+        ((30, 40, 9, 7, -3, -2), (90, 80, 6, 8, -2, -4)),
+        ((30, 40, 9, 7, 2, 2), (90, 80, 6, 8, 64, 1)),
+    ):
+        yield list_line([at(*first)] + [at(*second)] * 32, 2)
+
+
+# Eight plans: the whole frame below, then one within, one cut at each edge, the last pixel on the last, one off and one over another.
+MIXED = (
+    (0, 0, 256, 192, -100, -60),
+    (10, 20, 30, 12, 5, 6),
+    (200, 100, 40, 20, 50, 40),
+    (100, 100, 16, 16, -7, 30),
+    (255, 191, 1, 1, 63, 47),
+    (0, 0, 5, 5, 64, 0),
+    (3, 4, 20, 10, 10, -4),
+    (10, 20, 30, 12, 8, 9),
+)
+
+
+def mixes_lines():
+    """The eight and the first five of them; then another in the place of the frame, and one that is outside."""
+    placements = [at(*placement) for placement in MIXED] + [at(7, 7, 7, 7, 7, 7)] * 25
+    yield list_line(placements, 8)
+    yield list_line(placements, 5)
+    placements[0] = at(250, 0, 6, 48, 40, 0)
+    yield list_line(placements, 8)
+    placements[6] = at(250, 0, 7, 48, 40, 0)
+    yield list_line(placements, 8)
+    yield list_line(placements, 6)
+
+
+def lists_lines():
+    """Lists of none, of one, of as many as may be and of one more; with marred ones, of which the first is told, and which are not looked at past the list's end.
+
+    The list is one of stairs: each plan further to the right and down, so that some lie over the one before and the last are cut or off.
+    """
+    placements = [at(k * 7, k * 5, k % 5 + 4, k % 3 + 3, k * 3, k * 2) for k in range(LIST)]
+    for count in (0, 1, 32, 33):
+        yield list_line(placements, count)
+    placements[32] = at(0, 0, 0, 1, 0, 0)
+    yield list_line(placements, 32)
+    placements[31] = at(0, 0, 256, 193, 0, 0)
+    for count in (31, 32, 33):
+        yield list_line(placements, count)
+    placements[7] = at(0, 0, 1, 0, 0, 0)
+    yield list_line(placements, 32)
+    placements[0] = at(256, 0, 1, 1, -32768, -32768)
+    yield list_line(placements, 3)
+
+
+def orders_lines():
+    """The refusals: each with all that come after it, with the next one, and alone; then a frame with bytes behind it.
+
+    The placements from the third on are empty.
+    """
+    placements = [at(30, 40, 9, 7, 2, 2), at(90, 80, 6, 8, 7, 1)] + [at(30, 40, 0, 7, 2, 2)] * 31
+    for frame, width, size, count in (
+        (49151, 0, 239, 33),
+        (49151, 20, 239, 2),
+        (49151, 20, 240, 2),
+        (49151, 20, 240, 0),
+        (0, 20, 240, 2),
+        (49152, 0, 239, 33),
+        (49152, 20, 239, 3),
+        (49152, 20, 239, 0),
+        (49152, 20, 240, 33),
+        (49152, 20, 240, 32),
+        (49152, 20, 240, 2),
+        (49152, 20, 240, 0),
+        (49200, 20, 240, 2),
+    ):
+        yield lay_line(placements, width, 12, size, frame=frame, count=count)
+
+
+def try_canvas():
+    """One placement at all edges, and on canvases of all shapes; canvases and rectangles that are refused; lists, and the order of the refusals."""
+    for corner in EDGES:
+        yield plan_line(20, 12, 240, *corner)
+    yield from shapes_lines()
+    for sides_and_size in CANVASES:
+        yield plan_line(*sides_and_size, -2, -1)
+    for rectangle in RECTANGLES:
+        yield lay_line([at(*rectangle, -1, -1)], 20, 12, 240)
+    yield from layers_lines()
+    yield from mixes_lines()
+    yield from lists_lines()
+    yield from orders_lines()
+
+
 # == try_picture
 
 
@@ -1015,6 +1211,7 @@ TRIALS = {
     "try_sheet": try_sheet,
     "try_report": try_report,
     "try_chip": try_chip,
+    "try_canvas": try_canvas,
     "try_picture": try_picture,
     "try_lookup": try_lookup,
 }

@@ -5,8 +5,8 @@ use lib.Dec.{eqb}
 use Rattle.promises.specs.Choose.{choose}
 use Rattle.promises.specs.Told.{Told}
 use Rattle.answer.specs.declared.Unfit.the-variants.{PinsAbove, TextBack, FastRate, ImageLength, NotSuited, FontLength, ShortStrip, ShortFrame}
-use Rattle.answer.specs.declared.Later.the-variants.{OtherChip, ShortDestination, NoKey}
-use Rattle.answer.specs.declared.Spot.the-variants.{Stray, BrokenSheet, NoPicture, NotValid, NotFitted}
+use Rattle.answer.specs.declared.Later.the-variants.{OtherChip, ShortDestination, NoKey, WrongCanvas, ManyPlacements}
+use Rattle.answer.specs.declared.Spot.the-variants.{Stray, BrokenSheet, NoPicture, NotValid, NotFitted, OutsideFrame}
 use Rattle.answer.specs.declared.Answer.{Answer}
 use Rattle.answer.specs.declared.Answer.the-variants.{Done, Unfit as ByUnfit, Later as ByLater, At, Elsewhere}
 use Rattle.answer.specs.Told.{toldOf}
@@ -30,7 +30,10 @@ ofTold t =
     (choose (eqb (t .number) 14) (ByLater ShortDestination)
     (choose (eqb (t .number) 15) (At NotValid (t .place))
     (choose (eqb (t .number) 16) (ByUnfit NotSuited)
-    (choose (eqb (t .number) 17) (At NotFitted (t .place)) (At NoPicture (t .place))))))))))))))))))
+    (choose (eqb (t .number) 17) (At NotFitted (t .place))
+    (choose (eqb (t .number) 18) (ByLater WrongCanvas)
+    (choose (eqb (t .number) 19) (ByLater ManyPlacements)
+    (choose (eqb (t .number) 20) (At OutsideFrame (t .place)) (At NoPicture (t .place)))))))))))))))))))))
 
 back : (a : Answer) → ofTold (toldOf a) ≡ a
 unfolding ofTold
@@ -46,11 +49,14 @@ back (ByUnfit ShortFrame) = refl
 back (ByLater OtherChip) = refl
 back (ByLater ShortDestination) = refl
 back (ByLater NoKey) = refl
+back (ByLater WrongCanvas) = refl
+back (ByLater ManyPlacements) = refl
 back (At Stray p) = refl
 back (At BrokenSheet p) = refl
 back (At NoPicture p) = refl
 back (At NotValid p) = refl
 back (At NotFitted p) = refl
+back (At OutsideFrame p) = refl
 back (Elsewhere p w) = refl
 
 -- no answer is told by 2: that number is no longer given

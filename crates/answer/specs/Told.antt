@@ -4,9 +4,9 @@ use Rattle.promises.specs.Told.{Told, told, done, refused}
 use Rattle.answer.specs.declared.Unfit.{Unfit}
 use Rattle.answer.specs.declared.Unfit.the-variants.{PinsAbove, TextBack, FastRate, ImageLength, NotSuited, FontLength, ShortStrip, ShortFrame}
 use Rattle.answer.specs.declared.Later.{Later}
-use Rattle.answer.specs.declared.Later.the-variants.{OtherChip, ShortDestination, NoKey}
+use Rattle.answer.specs.declared.Later.the-variants.{OtherChip, ShortDestination, NoKey, WrongCanvas, ManyPlacements}
 use Rattle.answer.specs.declared.Spot.{Spot}
-use Rattle.answer.specs.declared.Spot.the-variants.{Stray, BrokenSheet, NoPicture, NotValid, NotFitted}
+use Rattle.answer.specs.declared.Spot.the-variants.{Stray, BrokenSheet, NoPicture, NotValid, NotFitted, OutsideFrame}
 use Rattle.answer.specs.declared.Answer.{Answer}
 use Rattle.answer.specs.declared.Answer.the-variants.{Done, Unfit as ByUnfit, Later as ByLater, At, Elsewhere}
 
@@ -26,6 +26,8 @@ abbrev pub laterNumber : Later → ℕ
 laterNumber OtherChip = 13
 laterNumber ShortDestination = 14
 laterNumber NoKey = 12
+laterNumber WrongCanvas = 18
+laterNumber ManyPlacements = 19
 
 -- with a place
 abbrev pub spotNumber : Spot → ℕ
@@ -34,6 +36,7 @@ spotNumber BrokenSheet = 11
 spotNumber NoPicture = 28
 spotNumber NotValid = 15
 spotNumber NotFitted = 17
+spotNumber OutsideFrame = 20
 
 abbrev pub toldOf : Answer → Told
 toldOf (Done v) = done v

@@ -20,6 +20,8 @@ pub enum Later {
     OtherChip,
     ShortDestination,
     NoKey,
+    WrongCanvas,
+    ManyPlacements,
 }
 
 // Refusals that name a place.
@@ -34,6 +36,8 @@ pub enum Spot {
     NotValid,
     // The strip index of the first fetch from a bank that is not fitted.
     NotFitted,
+    // The index of the first placement whose rectangle lies outside the frame or is empty.
+    OutsideFrame,
 }
 
 // Done with its value, or refused: each case holds what document 01 has told of it.
@@ -69,6 +73,8 @@ fn later_number(l: Later) -> u8
         Later::OtherChip => 13,
         Later::ShortDestination => 14,
         Later::NoKey => 12,
+        Later::WrongCanvas => 18,
+        Later::ManyPlacements => 19,
     }
 }
 
@@ -81,6 +87,7 @@ fn spot_number(s: Spot) -> u8
         Spot::NoPicture => 28,
         Spot::NotValid => 15,
         Spot::NotFitted => 17,
+        Spot::OutsideFrame => 20,
     }
 }
 

@@ -13,6 +13,8 @@ use Rattle.frame.proofs.Unique.{draw-op}
 use Rattle.screen.proofs.Unique.{show-op}
 use Rattle.back.proofs.Unique.{read-back-op}
 use Rattle.transpose.proofs.Unique.{to-image-op, to-chip-op}
+use Rattle.plans.specs.declared.Placement.{Placement}
+use Rattle.canvas.proofs.Unique.{lay-op}
 use Rattle.picture.proofs.Unique.{encode-op}
 use Rattle.picture_back.proofs.Unique.{decode-op}
 use Rattle.intake.specs.declared.Intake.{Intake}
@@ -24,6 +26,10 @@ use Rattle.report_text.proofs.Unique.{report-op, report-after-op}
 -- a lent buffer
 abbrev pub Lent : Type 0
 Lent = RefT (List ℕ)
+
+-- a lent list of placements
+abbrev pub Listed : Type 0
+Listed = RefT (List Placement)
 
 -- `play` with this word and these writes may answer z
 abbrev pub Plays : Lfts 1 → ℕ → Lent → Answer → Type 0
@@ -58,6 +64,10 @@ ToImage κs k chip image z out = Allows to-image-op κs (k, (chip, (image, tt)))
 -- `to_chip` may answer z and leave `out` in the chip
 abbrev pub ToChip : Lfts 2 → ℕ → Lent → Lent → Answer → List ℕ → Type 0
 ToChip κs k image chip z out = Allows to-chip-op κs (k, (image, (chip, tt))) z (tt, (tt, (out, tt)))
+
+-- `lay` may answer z, and leave `entries` in the list and `out` on the canvas
+abbrev pub Lays : Lfts 3 → Lent → Listed → ℕ → ℕ → Lent → Answer → List Placement → List ℕ → Type 0
+Lays κs frame ps width height canvas z entries out = Allows lay-op κs (frame, (ps, (width, (height, (canvas, tt))))) z (tt, (entries, (tt, (tt, (out, tt)))))
 
 -- `encode` may answer z and leave `out` in the file
 abbrev pub Encodes : Lfts 2 → ℕ → Lent → Lent → Answer → List ℕ → Type 0

@@ -1,10 +1,10 @@
 -- Demand 1. "Every entry point takes all bytes and numbers, ends, and refuses bad input by itself, with a number and a place, writing no
 -- lent byte. A success writes only the part that is named." That every input is taken is said in Operations; that each call ends comes
 -- with the proof of its function.
-use Prim.Native.Nat.{ℕ, _^_, _≤_, _<_}
+use Prim.Native.Nat.{ℕ, _/_, _%_, _^_, _≤_, _<_}
 use mathlib.Core.Path.{_≡_, refl, ap, _∙_}
 use mathlib.Core.Bool.{Bool, true, false}
-use mathlib.Core.List.{List, [], _++_}
+use mathlib.Core.List.{List, [], _++_, map}
 use mathlib.Core.Logic.{_↔_}
 use contract.Lifetimes.{Lfts}
 use denote.Ref.{now}
@@ -15,6 +15,7 @@ use Rattle.promises.specs.Choose.{choose}
 use Rattle.promises.specs.Told.{Told, done}
 use Rattle.promises.specs.Order.{Check, after, firstOf, HoldsFirst, NoneHolds, areRefusals}
 use Rattle.promises.specs.Written.{written}
+use Rattle.promises.proofs.Tables.{Each}
 use Rattle.promises.proofs.Orders.{given-when, done-when}
 use Rattle.promises.proofs.Fills.{written-fills}
 use Rattle.answer.specs.declared.Answer.{Answer}
@@ -37,6 +38,10 @@ use Rattle.back.specs.Back.{backPixels, backOrder, backTold}
 use Rattle.back.proofs.Backs.{back-accepted, strip-done as back-done, strip-kept}
 use Rattle.transpose.specs.Chip.{chipOrder, chipTold, chipAfter, transposedByte}
 use Rattle.transpose.proofs.Answers.{accepted as chip-accepted, room-done, room-refused}
+use Rattle.plans.specs.declared.Placement.{Placement}
+use Rattle.plans.specs.Canvas.{covers, withCounts, firstOutside, layOrder, orderTold}
+use Rattle.plans.proofs.Refusals.{entries-refused, canvas-refused}
+use Rattle.plans.proofs.Covers.{fields-stay, canvas-long, uncovered-stays}
 use Rattle.png.specs.File.{file}
 use Rattle.picture.specs.Encode.{fileLength, pixels, encodeOrder, encodeTold}
 use Rattle.picture.proofs.Answers.{accepted as encode-accepted, made-done, made-refused}
@@ -55,7 +60,7 @@ use Rattle.report_text.specs.declared.Text.{Text}
 use Rattle.report_text.specs.Words.{held}
 use Rattle.report_text.specs.Report.{statusLine, toldAfter}
 use Rattle.report_text.proofs.Fits.{holds-report, begins-with-status}
-use Rattle.claims.proofs.Calls.{Lent, Plays, Fetches, Draws, Shows, ReadsBack, ToImage, ToChip, Encodes, Decodes, TakesIn, Finds, Reports, ReportsAfter}
+use Rattle.claims.proofs.Calls.{Lent, Listed, Plays, Fetches, Draws, Shows, ReadsBack, ToImage, ToChip, Lays, Encodes, Decodes, TakesIn, Finds, Reports, ReportsAfter}
 
 -- what is told is what the order says: each number exactly when its condition holds and none earlier does, done exactly when none does
 pub record Ordered (told : Told) (order : List Check) (value : ℕ) : Type 0 where
@@ -163,6 +168,29 @@ to-image-demand κs k chip image z out p = chip-demand k chip image z out p
 pub to-chip-demand : (κs : Lfts 2) (k : ℕ) (image chip : Lent) (z : Answer) (out : List ℕ) → ToChip κs k image chip z out
     → Ordered (toldOf z) (chipOrder k (length (now image)) (length (now chip))) 0 × Guarded (toldOf z) (length (now image)) (now chip) out
 to-chip-demand κs k image chip z out p = chip-demand k image chip z out p
+
+-- what laying spares: where it is refused all of both, and always of an entry all but its two counts, and of the canvas each pixel that no placement covers
+pub record Spared (told : Told) (width : ℕ) (ps entries : List Placement) (canvas out : List ℕ) : Type 0 where
+  pub no-entry : (told .number ≡ 0 → ⊥) → entries ≡ ps
+  pub no-pixel : (told .number ≡ 0 → ⊥) → out ≡ canvas
+  pub fields : map (λ (p : Placement). withCounts p 0 0) entries ≡ map (λ (p : Placement). withCounts p 0 0) ps
+  pub long : length out ≡ length canvas
+  pub uncovered : (k : ℕ) → Each (λ (p : Placement). covers p (k % width) (k / width) ≡ false) ps → getD out k 0 ≡ getD canvas k 0
+
+-- placements on a canvas: 8, 18, 19, 20
+pub lay-demand : (κs : Lfts 3) (frame : Lent) (ps : Listed) (width height : ℕ) (canvas : Lent) (z : Answer) (entries : List Placement) (out : List ℕ) → Lays κs frame ps width height canvas z entries out
+    → Ordered (toldOf z) (layOrder (length (now frame)) width height (length (now canvas)) (length (now ps)) (firstOutside (now ps))) 0 × Spared (toldOf z) width (now ps) entries (now canvas) out
+unfolding orderTold
+lay-demand κs frame ps width height canvas z entries out p = (
+  ordered (layOrder (length (now frame)) width height (length (now canvas)) (length (now ps)) (firstOutside (now ps))) 0 tt (p .0),
+  record {
+    no-entry = λ no. p .1 .0 ∙ entries-refused (now frame) (now ps) width height (now canvas) (λ e. no (rw (p .0) e));
+    no-pixel = λ no. p .1 .1 ∙ canvas-refused (now frame) (now ps) width height (now canvas) (λ e. no (rw (p .0) e));
+    fields = rw (p .1 .0) (fields-stay (now frame) (now ps) width height (now canvas));
+    long = rw (p .1 .1) (canvas-long (now frame) (now ps) width height (now canvas));
+    uncovered = λ k e. rw (p .1 .1) (uncovered-stays (now frame) (now ps) width height (now canvas) k e);
+  },
+)
 
 -- the picture file: 8, 9, 14
 pub encode-demand : (κs : Lfts 2) (border : ℕ) (frame png : Lent) (z : Answer) (out : List ℕ) → Encodes κs border frame png z out

@@ -8,6 +8,7 @@ pub mod Demand3
 pub mod Alikes
 pub mod Felt
 pub mod Chips
+pub mod Plans
 pub mod Copy
 pub mod Cover
 pub mod LowerCase

@@ -13,6 +13,7 @@ use Rattle.frame.proofs.Unique as frame
 use Rattle.screen.proofs.Unique as screen
 use Rattle.back.proofs.Unique as back
 use Rattle.transpose.proofs.Unique as transpose
+use Rattle.canvas.proofs.Unique as canvas
 use Rattle.checksum.proofs.Unique as checksum
 use Rattle.picture.proofs.Unique as picture
 use Rattle.picture_back.proofs.Unique as picture-back
@@ -68,6 +69,7 @@ operations =
     ∷ fixed back.read-back-fixes
     ∷ fixed transpose.to-image-fixes
     ∷ fixed transpose.to-chip-fixes
+    ∷ fixed canvas.lay-fixes
     ∷ fixed checksum.crc-fixes
     ∷ fixed checksum.adler-fixes
     ∷ fixed picture.encode-fixes
@@ -146,6 +148,7 @@ pub named : map (λ o. o .operation .key) operations
     ∷ "back::read_back"
     ∷ "transpose::to_image"
     ∷ "transpose::to_chip"
+    ∷ "canvas::lay"
     ∷ "checksum::crc"
     ∷ "checksum::adler"
     ∷ "picture::encode"

@@ -7,12 +7,14 @@ use mathlib.Core.Logic.{_↔_, ⊎-elim}
 use native.Mathlib.Omega.{arith}
 use contract.Lifetimes.{Lfts}
 use denote.Ref.{now}
+use lib.IntN.{pos}
 use lib.ListN.{length, getD, take, set, replicate, length-set, length-replicate, getD-replicate, List·getD-eq-default}
 use lib.Seq.{getD-set-same, getD-set-other}
 use borrow.Author.Tests.{le-ltb}
 use Rattle.promises.specs.Told.{Told, done}
 use Rattle.promises.specs.Order.{NoneHolds}
 use Rattle.promises.specs.Written.{Bytes}
+use Rattle.promises.proofs.Tables.{Each}
 use Rattle.promises.proofs.Fills.{lt-or-ge}
 use Rattle.promises.proofs.Orders.{done-when}
 use Rattle.promises.specs.First.{firstWhere}
@@ -44,6 +46,8 @@ use Rattle.back.specs.Back.{backPixels, backOrder}
 use Rattle.back.proofs.Backs.{back-accepted, strip-done as back-done}
 use Rattle.back.proofs.RoundTrip.{written-reads}
 use Rattle.transpose.specs.Chip.{chipOrder, chipPlace}
+use Rattle.plans.specs.declared.Placement.{Placement}
+use Rattle.plans.specs.Canvas.{canvasFits, outside, firstOutside, layOrder, covers, pixelOf}
 use Rattle.png.specs.File.{file}
 use Rattle.picture.specs.Encode.{fileLength, pixels, encodeOrder, encodeTold, pictureMade}
 use Rattle.picture.proofs.Answers.{accepts}
@@ -55,10 +59,11 @@ use Rattle.sheet.specs.declared.Sheet.{Sheet}
 use Rattle.sheet.proofs.Annotations.{Reads, Line}
 use Rattle.lookup.specs.Lookup.{holderOrder}
 use Rattle.lookup.proofs.Examples.{recordSheet, coverSheet}
-use Rattle.claims.proofs.Calls.{Lent, Plays, Fetches, Draws, Shows, ReadsBack, ToImage, ToChip, Encodes, Decodes, Finds}
-use Rattle.claims.proofs.Demand1.{play-demand, fetch-demand, draw-demand, show-demand, back-demand, read-demand, to-image-demand, to-chip-demand, encode-demand, decode-demand, holder-demand}
+use Rattle.claims.proofs.Calls.{Lent, Listed, Plays, Fetches, Draws, Shows, ReadsBack, ToImage, ToChip, Lays, Encodes, Decodes, Finds}
+use Rattle.claims.proofs.Demand1.{play-demand, fetch-demand, draw-demand, show-demand, back-demand, read-demand, to-image-demand, to-chip-demand, lay-demand, encode-demand, decode-demand, holder-demand}
 use Rattle.claims.proofs.Demand2.{Done, value, one-more-write, strip-bytes, frame-pixels, shown-byte, shown-pixel, counted-lines}
 use Rattle.claims.proofs.Chips.{image-byte, chip-byte}
+use Rattle.claims.proofs.Plans.{later-covers}
 use Rattle.claims.proofs.Copy.{picture-byte, pixel-left}
 use Rattle.claims.proofs.LowerCase.{Painted}
 use Rattle.claims.proofs.Ascents.{rg6, goes-up}
@@ -88,6 +93,10 @@ image-accepts κs k chip image z out p = to-image-demand κs k chip image z out 
 
 pub chip-accepts : (κs : Lfts 2) (k : ℕ) (image chip : Lent) (z : Answer) (out : List ℕ) → ToChip κs k image chip z out → (Done z) ↔ NoneHolds (chipOrder k (length (now image)) (length (now chip)))
 chip-accepts κs k image chip z out p = to-chip-demand κs k image chip z out p .0 .done-if
+
+pub lay-accepts : (κs : Lfts 3) (frame : Lent) (ps : Listed) (width height : ℕ) (canvas : Lent) (z : Answer) (entries : List Placement) (out : List ℕ) → Lays κs frame ps width height canvas z entries out
+    → (Done z) ↔ NoneHolds (layOrder (length (now frame)) width height (length (now canvas)) (length (now ps)) (firstOutside (now ps)))
+lay-accepts κs frame ps width height canvas z entries out p = lay-demand κs frame ps width height canvas z entries out p .0 .done-if
 
 pub encode-accepts : (κs : Lfts 2) (border : ℕ) (frame png : Lent) (z : Answer) (out : List ℕ) → Encodes κs border frame png z out → (Done z) ↔ NoneHolds (encodeOrder border (now frame) (now png))
 encode-accepts κs border frame png z out p = encode-demand κs border frame png z out p .0 .done-if
@@ -168,6 +177,11 @@ some-held = ((refl, (refl, (refl, tt))), (refl, (refl, (refl, tt))))
 
 pub some-transposed : NoneHolds (chipOrder 6 4096 4096) × NoneHolds (chipOrder 7 32768 32768) × NoneHolds (chipOrder 8 65536 65536)
 some-transposed = ((refl, (refl, tt)), (refl, (refl, tt)), (refl, (refl, tt)))
+
+-- one pixel of a frame laid on a canvas of one
+pub some-laid : NoneHolds (layOrder frameLength 1 1 1 1 (firstOutside (record { left = 255; top = 191; across = 1; down = 1; x = pos 0; y = pos 0; on = 0; cut = 0 } ∷ [])))
+unfolding canvasFits outside firstWhere
+some-laid = (refl, (refl, (refl, (refl, tt))))
 
 -- a frame of 0 with border 0 makes a picture,
 encoded : encodeTold 0 (zeros frameLength) (zeros fileLength) ≡ done fileLength
@@ -274,6 +288,12 @@ not-idle-image κs k chip image z out p d a h = idle a (image-byte κs k chip im
 pub not-idle-chip : (κs : Lfts 2) (k : ℕ) (image chip : Lent) (z : Answer) (out : List ℕ) → ToChip κs k image chip z out → Done z
     → (a : ℕ) → a < length (now image) → (getD (now image) a 0 ≡ getD (now chip) (chipPlace k a) 0 → ⊥) → out ≡ now chip → ⊥
 not-idle-chip κs k image chip z out p d a h = idle (chipPlace k a) (chip-byte κs k image chip z out p d a h)
+
+-- the canvas
+pub not-idle-canvas : (κs : Lfts 3) (frame : Lent) (ps : Listed) (width height : ℕ) (canvas : Lent) (z : Answer) (entries : List Placement) (out : List ℕ) → Lays κs frame ps width height canvas z entries out → Done z
+    → (xs : List Placement) (q : Placement) (ys : List Placement) → now ps ≡ xs ++ (q ∷ ys) → (k : ℕ) → k < length (now canvas) → covers q (k % width) (k / width) ≡ true
+    → Each (λ (y : Placement). covers y (k % width) (k / width) ≡ false) ys → (pixelOf (now frame) q (k % width) (k / width) ≡ getD (now canvas) k 0 → ⊥) → out ≡ now canvas → ⊥
+not-idle-canvas κs frame ps width height canvas z entries out p d xs q ys e k h on off = idle k (later-covers κs frame ps width height canvas z entries out p d xs q ys e k h on off)
 
 -- the picture file, and the frame out of it
 pub not-idle-picture : (κs : Lfts 2) (border : ℕ) (frame png : Lent) (z : Answer) (out : List ℕ) → Encodes κs border frame png z out → Done z

@@ -96,7 +96,7 @@ written-by zero old e = refl
 written-by {g} {h} (suc n) old e = rw (written-by {g = g} {h = h} n old (λ k l. e k (omega arith)), e n (omega arith))
 
 -- what a call leaves where it is done, where it is refused, and that it keeps a length
-module _ (t : Told) (new old : List ℕ) where
+module _ {A : Type 0} (t : Told) (new old : List A) where
   pub leaves-done : t .number ≡ 0 → leaves t new old ≡ new
   unfolding leaves
   leaves-done e = simp (eq-eqb _ _ e)
@@ -107,4 +107,4 @@ module _ (t : Told) (new old : List ℕ) where
 
   pub leaves-long : length new ≡ length old → length (leaves t new old) ≡ length old
   unfolding leaves
-  leaves-long e = of-both (λ (x : List ℕ). length x ≡ length old) (eqb (t .number) 0) e refl
+  leaves-long e = of-both (λ (x : List A). length x ≡ length old) (eqb (t .number) 0) e refl

@@ -16,8 +16,8 @@ unfoldable pub written : (ℕ → ℕ) → ℕ → List ℕ → List ℕ
 written g zero old = old
 written g (suc n) old = set (written g n old) n (g n)
 
--- what a call leaves in a buffer, where t is told of it: `new` where it is done; a refusal stores nothing
-unfoldable pub leaves : Told → List ℕ → List ℕ → List ℕ
+-- what a call leaves in a buffer or a list, where t is told of it: `new` where it is done; a refusal stores nothing
+unfoldable pub leaves : {A : Type 0} → Told → List A → List A → List A
 leaves t new old = choose (eqb (t .number) 0) new old
 
 -- new is old with g k at each place k from a to below n
