@@ -5,7 +5,7 @@ use lib.Dec.{eqb}
 use Rattle.promises.specs.Choose.{choose}
 use Rattle.promises.specs.Told.{Told}
 use Rattle.answer.specs.declared.Unfit.TheVariants.{PinsAbove, TextBack, FastRate, ImageLength, NotSuited, FontLength, ShortStrip, ShortFrame}
-use Rattle.answer.specs.declared.Later.TheVariants.{OtherChip, ShortDestination, NoKey, WrongCanvas, ManyPlacements, OtherStatus, FullTally}
+use Rattle.answer.specs.declared.Later.TheVariants.{OtherChip, ShortDestination, NoKey, WrongCanvas, ManyPlacements}
 use Rattle.answer.specs.declared.Spot.TheVariants.{Stray, BrokenSheet, NoPicture, NotValid, NotFitted, OutsideFrame}
 use Rattle.answer.specs.declared.Answer.{Answer}
 use Rattle.answer.specs.declared.Answer.TheVariants.{Done, Unfit as ByUnfit, Later as ByLater, At, Elsewhere}
@@ -33,9 +33,7 @@ of_told t =
     (choose (eqb t.number 17) (At NotFitted t.place)
     (choose (eqb t.number 18) (ByLater WrongCanvas)
     (choose (eqb t.number 19) (ByLater ManyPlacements)
-    (choose (eqb t.number 20) (At OutsideFrame t.place)
-    (choose (eqb t.number 21) (ByLater OtherStatus)
-    (choose (eqb t.number 22) (ByLater FullTally) (At NoPicture t.place))))))))))))))))))))))
+    (choose (eqb t.number 20) (At OutsideFrame t.place) (At NoPicture t.place))))))))))))))))))))
 
 back : (a : Answer) → of_told (told_of a) ≡ a
 unfolding of_told
@@ -53,8 +51,6 @@ back (ByLater ShortDestination) = refl
 back (ByLater NoKey) = refl
 back (ByLater WrongCanvas) = refl
 back (ByLater ManyPlacements) = refl
-back (ByLater OtherStatus) = refl
-back (ByLater FullTally) = refl
 back (At Stray p) = refl
 back (At BrokenSheet p) = refl
 back (At NoPicture p) = refl

@@ -4,7 +4,7 @@ use Rattle.promises.specs.Told.{Told, told, done, refused}
 use Rattle.answer.specs.declared.Unfit.{Unfit}
 use Rattle.answer.specs.declared.Unfit.TheVariants.{PinsAbove, TextBack, FastRate, ImageLength, NotSuited, FontLength, ShortStrip, ShortFrame}
 use Rattle.answer.specs.declared.Later.{Later}
-use Rattle.answer.specs.declared.Later.TheVariants.{OtherChip, ShortDestination, NoKey, WrongCanvas, ManyPlacements, OtherStatus, FullTally}
+use Rattle.answer.specs.declared.Later.TheVariants.{OtherChip, ShortDestination, NoKey, WrongCanvas, ManyPlacements}
 use Rattle.answer.specs.declared.Spot.{Spot}
 use Rattle.answer.specs.declared.Spot.TheVariants.{Stray, BrokenSheet, NoPicture, NotValid, NotFitted, OutsideFrame}
 use Rattle.answer.specs.declared.Answer.{Answer}
@@ -28,8 +28,6 @@ later_number ShortDestination = 14
 later_number NoKey = 12
 later_number WrongCanvas = 18
 later_number ManyPlacements = 19
-later_number OtherStatus = 21
-later_number FullTally = 22
 
 -- with a place
 abbrev pub spot_number : Spot → ℕ

@@ -24,8 +24,6 @@ pub enum Later {
     NoKey,
     WrongCanvas,
     ManyPlacements,
-    OtherStatus,
-    FullTally,
 }
 
 // Refusals that name a place.
@@ -81,8 +79,6 @@ fn later_number(l: Later) -> u8
         Later::NoKey => 12,
         Later::WrongCanvas => 18,
         Later::ManyPlacements => 19,
-        Later::OtherStatus => 21,
-        Later::FullTally => 22,
     }
 }
 

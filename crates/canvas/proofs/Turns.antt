@@ -69,11 +69,11 @@ module _ (frame : List ℕ) (width : ℕ) where
   pub after_more : (i : ℕ) (ys : List Placement) (d : Placement) (c : List ℕ) → i < length ys → laid frame width (get_or ys i d ∷ []) (after i ys c) ≡ after (i + 1) ys c
   after_more i ys d c h = rw add-one (after_suc i ys d c h)
 
-  pub after_all_lem : (i : ℕ) (ys : List Placement) (c : List ℕ) → length ys ≤ i → after i ys c ≡ laid frame width ys c
-  after_all_lem zero [] c h = laid_none frame width c
-  after_all_lem zero (y ∷ ys) c h = absurd (not-suc-le-zero h)
-  after_all_lem (suc i) [] c h = laid_none frame width c
-  after_all_lem (suc i) (y ∷ ys) c h = after_all_lem i ys (laid frame width (y ∷ []) c) (le_of_suc-le-suc h) ∙ laid_more frame width y ys c
+  pub after_all : (i : ℕ) (ys : List Placement) (c : List ℕ) → length ys ≤ i → after i ys c ≡ laid frame width ys c
+  after_all zero [] c h = laid_none frame width c
+  after_all zero (y ∷ ys) c h = absurd (not-suc-le-zero h)
+  after_all (suc i) [] c h = laid_none frame width c
+  after_all (suc i) (y ∷ ys) c h = after_all i ys (laid frame width (y ∷ []) c) (le_of_suc-le-suc h) ∙ laid_more frame width y ys c
 
 -- the whole operation: all placements are laid, or none
 module _ (frame : List ℕ) (ys : List Placement) (width height : ℕ) (cs : List ℕ) where
@@ -97,7 +97,7 @@ module _ (frame : List ℕ) (ys : List Placement) (width height : ℕ) (cs : Lis
   entries_end = entries_by accepts
 
   canvas_by : (b : Bool) → after frame width (choose b (length ys) 0) ys cs ≡ choose b (laid frame width ys cs) cs
-  canvas_by true = after_all_lem frame width (length ys) ys cs (le_refl (length ys))
+  canvas_by true = after_all frame width (length ys) ys cs (le_refl (length ys))
   canvas_by false = refl
 
   pub canvas_end : after frame width turns ys cs ≡ canvas_after frame ys width height cs

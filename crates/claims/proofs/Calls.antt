@@ -15,12 +15,8 @@ use Rattle.back.proofs.Unique.{read_back_op}
 use Rattle.transpose.proofs.Unique.{to_image_op, to_chip_op}
 use Rattle.plans.specs.declared.Placement.{Placement}
 use Rattle.canvas.proofs.Unique.{lay_op}
-use Rattle.tally.specs.declared.Tally.{Tally}
-use Rattle.tally.proofs.Unique.{enter_op, keep_op}
 use Rattle.picture.proofs.Unique.{encode_op}
 use Rattle.picture_back.proofs.Unique.{decode_op}
-use Rattle.copying.specs.declared.Copy.{Copy}
-use Rattle.copying.proofs.Unique.{copy_of_op}
 use Rattle.intake.specs.declared.Intake.{Intake}
 use Rattle.intake.proofs.Unique.{settings_of_op}
 use Rattle.lookup.proofs.Unique.{holder_op, value_op}
@@ -34,10 +30,6 @@ Lent = Bor (List ℕ)
 -- a lent list of placements
 abbrev pub Listed : Type 0
 Listed = Bor (List Placement)
-
--- a lent tally
-abbrev pub LentTally : Type 0
-LentTally = Bor Tally
 
 -- `play` with this word and these writes may answer z
 abbrev pub Plays : Lfts 1 → ℕ → Lent → Answer → Type 0
@@ -77,14 +69,6 @@ ToChip κs k image chip z out = Allows to_chip_op κs (k, (image, (chip, tt))) z
 abbrev pub Lays : Lfts 3 → Lent → Listed → ℕ → ℕ → Lent → Answer → List Placement → List ℕ → Type 0
 Lays κs frame ps width height canvas z entries out = Allows lay_op κs (frame, (ps, (width, (height, (canvas, tt))))) z (tt, (entries, (tt, (tt, (out, tt)))))
 
--- `enter` may answer z and leave `out` in the tally that is lent
-abbrev pub Enters : Lfts 1 → LentTally → ℕ → Answer → Tally → Type 0
-Enters κs t status z out = Allows enter_op κs (t, (status, tt)) z (out, (tt, tt))
-
--- `keep` may answer z and give the tally `out`
-abbrev pub Keeps : Tally → ℕ → Answer → Tally → Type 0
-Keeps t status z out = Allows keep_op tt (t, (status, tt)) (record { answer = z; tally = out }) (tt, (tt, tt))
-
 -- `encode` may answer z and leave `out` in the file
 abbrev pub Encodes : Lfts 2 → ℕ → Lent → Lent → Answer → List ℕ → Type 0
 Encodes κs border frame png z out = Allows encode_op κs (border, (frame, (png, tt))) z (tt, (tt, (out, tt)))
@@ -92,10 +76,6 @@ Encodes κs border frame png z out = Allows encode_op κs (border, (frame, (png,
 -- `decode` may answer z and leave `out` in the frame
 abbrev pub Decodes : Lfts 2 → Lent → Lent → Answer → List ℕ → Type 0
 Decodes κs png frame z out = Allows decode_op κs (png, (frame, tt)) z (tt, (out, tt))
-
--- `copy_of` a sheet, an image and a font may give r
-abbrev pub Copies : Lfts 3 → Lent → Lent → Lent → Copy → Type 0
-Copies κs sheet image font r = Allows copy_of_op κs (sheet, (image, (font, tt))) r (tt, (tt, (tt, tt)))
 
 -- `settings_of` may give r
 abbrev pub TakesIn : Lfts 1 → Lent → Intake → Type 0

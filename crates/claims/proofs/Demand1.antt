@@ -41,16 +41,11 @@ use Rattle.plans.specs.declared.Placement.{Placement}
 use Rattle.plans.specs.Canvas.{covers, with_counts, first_outside, lay_order, order_told}
 use Rattle.plans.proofs.Refusals.{entries_refused, canvas_refused}
 use Rattle.plans.proofs.Covers.{fields_stay, canvas_long, uncovered_stays}
-use Rattle.tally.specs.declared.Tally.{Tally}
-use Rattle.tally.specs.Count.{enter_order, enter_told}
-use Rattle.tally.proofs.Entries.{after_refused, as_many, others_stay}
 use Rattle.png.specs.File.{file}
 use Rattle.picture.specs.Encode.{file_length, pixels, encode_order, encode_told}
 use Rattle.picture.proofs.Answers.{accepted as encode-accepted, made_done, made_refused}
 use Rattle.picture_back.specs.Decode.{border_read, pixel_read, decode_order, decode_told}
 use Rattle.picture_back.proofs.Decodes.{accepted as decode-accepted, read_done, read_refused}
-use Rattle.copying.specs.declared.Copy.{Copy}
-use Rattle.copying.specs.Copied.{copy_order, copy_told}
 use Rattle.intake.specs.declared.Intake.{Intake}
 use Rattle.intake.specs.Intake.{intake_order, intake_told, no_settings}
 use Rattle.intake.proofs.Judges.{given_refused}
@@ -64,7 +59,7 @@ use Rattle.report_text.specs.declared.Text.{Text}
 use Rattle.report_text.specs.Words.{held}
 use Rattle.report_text.specs.Report.{status_line, told_after}
 use Rattle.report_text.proofs.Fits.{holds_report, begins_with_status}
-use Rattle.claims.proofs.Calls.{Lent, Listed, LentTally, Plays, Fetches, Draws, Shows, ReadsBack, ToImage, ToChip, Lays, Enters, Keeps, Encodes, Decodes, Copies, TakesIn, Finds, Reports, ReportsAfter}
+use Rattle.claims.proofs.Calls.{Lent, Listed, Plays, Fetches, Draws, Shows, ReadsBack, ToImage, ToChip, Lays, Encodes, Decodes, TakesIn, Finds, Reports, ReportsAfter}
 
 -- what is told is what the order says: each number exactly when its condition holds and none earlier does, done exactly when none does
 pub record Ordered (told : Told) (order : List Check) (value : ℕ) : Type 0 where
@@ -196,30 +191,6 @@ lay_demand κs frame ps width height canvas z entries out p = (
   },
 )
 
--- what an entry spares of a tally: where it is refused all of it, and always how many counts there are, and every count but that of its status
-pub record OneCount (told : Told) (status : ℕ) (before after : Tally) : Type 0 where
-  pub refused : (told.number ≡ 0 → ⊥) → after ≡ before
-  pub long : length after.counts ≡ length before.counts
-  pub others : (k : ℕ) → (k ≡ status → ⊥) → get_or after.counts k 0 ≡ get_or before.counts k 0
-
--- an entry into a tally that is lent: 21, 22
-pub enter_demand : (κs : Lfts 1) (t : LentTally) (status : ℕ) (z : Answer) (out : Tally) → Enters κs t status z out
-    → Ordered (told_of z) (enter_order t.now status) 0 × OneCount (told_of z) status t.now out
-unfolding enter_told
-enter_demand κs t status z out p = (
-  ordered (enter_order t.now status) 0 tt p.0,
-  record {
-    refused = λ no. p.1 ∙ after_refused t.now status (λ e. no (rw p.0 e));
-    long = rw p.1 (as_many t.now status);
-    others = λ k other. rw p.1 (others_stay t.now status k other);
-  },
-)
-
--- and by value: `keep` is lent nothing, so that the order is all there is to say
-pub keep_demand : (t : Tally) (status : ℕ) (z : Answer) (out : Tally) → Keeps t status z out → Ordered (told_of z) (enter_order t status) 0
-unfolding enter_told
-keep_demand t status z out p = ordered (enter_order t status) 0 tt p.0
-
 -- the picture file: 8, 9, 14
 pub encode_demand : (κs : Lfts 2) (border : ℕ) (frame png : Lent) (z : Answer) (out : List ℕ) → Encodes κs border frame png z out
     → Ordered (told_of z) (encode_order border frame.now png.now) file_length × Guarded (told_of z) file_length png.now out
@@ -241,11 +212,6 @@ decode_demand κs png frame z out p = (
       (λ e. let d = rw p.0 at e in ((decode-accepted png.now frame.now d).1, p.1 ∙ read_done png.now frame.now d))
       (λ no. p.1 ∙ read_refused png.now frame.now (λ e. no (rw p.0 e))),
 )
-
--- a record's copy: the sheet's own numbers, then those of both at once, then the picture's. `copy_of` gives all by value, and is lent no buffer to write to
-pub copy_demand : (κs : Lfts 3) (sheet image font : Lent) (r : Copy) → Copies κs sheet image font r → Ordered (told_of r.answer) (copy_order sheet.now image.now font.now) file_length
-unfolding copy_told
-copy_demand κs sheet image font r p = ordered (copy_order sheet.now image.now font.now) file_length tt p.0
 
 -- the settings of a sheet: 11, 10, 1, 4; a refusal gives none. `settings_of` is lent no buffer to write to
 pub settings_demand : (κs : Lfts 1) (sheet : Lent) (z : Intake) → TakesIn κs sheet z

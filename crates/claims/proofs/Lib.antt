@@ -9,7 +9,6 @@ pub mod Alikes
 pub mod Felt
 pub mod Chips
 pub mod Plans
-pub mod Tallies
 pub mod Copy
 pub mod Cover
 pub mod LowerCase

@@ -14,17 +14,14 @@ use Rattle.screen.proofs.Unique as screen
 use Rattle.back.proofs.Unique as back
 use Rattle.transpose.proofs.Unique as transpose
 use Rattle.canvas.proofs.Unique as canvas
-use Rattle.tally.proofs.Unique as tally
 use Rattle.checksum.proofs.Unique as checksum
 use Rattle.picture.proofs.Unique as picture
 use Rattle.picture_back.proofs.Unique as picture-back
-use Rattle.copying.proofs.Unique as copying
 use Rattle.scan.proofs.Unique as scan
 use Rattle.sheet.proofs.Unique as sheet
 use Rattle.intake.proofs.Unique as intake
 use Rattle.lookup.proofs.Unique as lookup
 use Rattle.report_text.proofs.Unique as report-text
-use Rattle.pieces.proofs.Unique as pieces
 use Rattle.trial.proofs.Unique as trial
 
 -- each operation with the theorem that it is fixed
@@ -73,15 +70,10 @@ operations =
     ∷ fixed transpose.to_image_fixes
     ∷ fixed transpose.to_chip_fixes
     ∷ fixed canvas.lay_fixes
-    ∷ fixed tally.empty_fixes
-    ∷ fixed tally.total_fixes
-    ∷ fixed tally.enter_fixes
-    ∷ fixed tally.keep_fixes
     ∷ fixed checksum.crc_fixes
     ∷ fixed checksum.adler_fixes
     ∷ fixed picture.encode_fixes
     ∷ fixed picture-back.decode_fixes
-    ∷ fixed copying.copy_of_fixes
     ∷ fixed scan.survey_fixes
     ∷ fixed scan.annotation_fixes
     ∷ fixed sheet.read_fixes
@@ -93,14 +85,6 @@ operations =
     ∷ fixed lookup.value_fixes
     ∷ fixed report-text.report_fixes
     ∷ fixed report-text.report_after_fixes
-    ∷ fixed pieces.byte_fixes
-    ∷ fixed pieces.within_fixes
-    ∷ fixed pieces.find_fixes
-    ∷ fixed pieces.part_fixes
-    ∷ fixed pieces.gather_fixes
-    ∷ fixed pieces.same_fixes
-    ∷ fixed pieces.folder_length_fixes
-    ∷ fixed pieces.joined_fixes
     ∷ fixed trial.look_of_fixes
     ∷ fixed trial.settings_of_fixes
     ∷ fixed trial.least_fixes
@@ -165,15 +149,10 @@ pub named : map (λ o. o.operation.key) operations
     ∷ "transpose::to_image"
     ∷ "transpose::to_chip"
     ∷ "canvas::lay"
-    ∷ "tally::empty"
-    ∷ "tally::total"
-    ∷ "tally::enter"
-    ∷ "tally::keep"
     ∷ "checksum::crc"
     ∷ "checksum::adler"
     ∷ "picture::encode"
     ∷ "picture_back::decode"
-    ∷ "copying::copy_of"
     ∷ "scan::survey"
     ∷ "scan::annotation"
     ∷ "sheet::read"
@@ -185,14 +164,6 @@ pub named : map (λ o. o.operation.key) operations
     ∷ "lookup::value"
     ∷ "report_text::report"
     ∷ "report_text::report_after"
-    ∷ "pieces::byte"
-    ∷ "pieces::within"
-    ∷ "pieces::find"
-    ∷ "pieces::part"
-    ∷ "pieces::gather"
-    ∷ "pieces::same"
-    ∷ "pieces::folder_length"
-    ∷ "pieces::joined"
     ∷ "trial::look_of"
     ∷ "trial::settings_of"
     ∷ "trial::least"

@@ -45,9 +45,6 @@ use Rattle.back.specs.Back.{back_pixels, back_order}
 use Rattle.back.proofs.Backs.{back_accepted, strip_done as back_Done}
 use Rattle.back.proofs.RoundTrip.{written_reads}
 use Rattle.transpose.specs.Chip.{chip_order, chip_place}
-use Rattle.tally.specs.declared.Tally.{Tally}
-use Rattle.tally.specs.Count.{sum_of, none_entered, enter_order}
-use Rattle.tally.proofs.Entries.{one_more_lem}
 use Rattle.plans.specs.declared.Placement.{Placement}
 use Rattle.plans.specs.Canvas.{canvas_fits, outside, first_outside, lay_order, covers, pixel_of}
 use Rattle.png.specs.File.{file}
@@ -61,8 +58,8 @@ use Rattle.sheet.specs.declared.Sheet.{Sheet}
 use Rattle.sheet.proofs.Annotations.{Reads, Line}
 use Rattle.lookup.specs.Lookup.{holder_order}
 use Rattle.lookup.proofs.Examples.{record_sheet, cover_sheet}
-use Rattle.claims.proofs.Calls.{Lent, Listed, LentTally, Plays, Fetches, Draws, Shows, ReadsBack, ToImage, ToChip, Lays, Enters, Keeps, Encodes, Decodes, Finds}
-use Rattle.claims.proofs.Demand1.{play_demand, fetch_demand, draw_demand, show_demand, back_demand, read_demand, to_image_demand, to_chip_demand, lay_demand, enter_demand, keep_demand, encode_demand, decode_demand, holder_demand}
+use Rattle.claims.proofs.Calls.{Lent, Listed, Plays, Fetches, Draws, Shows, ReadsBack, ToImage, ToChip, Lays, Encodes, Decodes, Finds}
+use Rattle.claims.proofs.Demand1.{play_demand, fetch_demand, draw_demand, show_demand, back_demand, read_demand, to_image_demand, to_chip_demand, lay_demand, encode_demand, decode_demand, holder_demand}
 use Rattle.claims.proofs.Demand2.{Done, value, one_more_write, strip_bytes, frame_pixels, shown_byte, shown_pixel, counted_lines}
 use Rattle.claims.proofs.Chips.{image_byte, chip_byte}
 use Rattle.claims.proofs.Plans.{later_covers}
@@ -99,12 +96,6 @@ chip_accepts κs k image chip z out p = (to_chip_demand κs k image chip z out p
 pub lay_accepts : (κs : Lfts 3) (frame : Lent) (ps : Listed) (width height : ℕ) (canvas : Lent) (z : Answer) (entries : List Placement) (out : List ℕ) → Lays κs frame ps width height canvas z entries out
     → (Done z) ↔ NoneHolds (lay_order (length frame.now) width height (length canvas.now) (length ps.now) (first_outside ps.now))
 lay_accepts κs frame ps width height canvas z entries out p = (lay_demand κs frame ps width height canvas z entries out p).0.done_if
-
-pub enter_accepts : (κs : Lfts 1) (t : LentTally) (status : ℕ) (z : Answer) (out : Tally) → Enters κs t status z out → (Done z) ↔ NoneHolds (enter_order t.now status)
-enter_accepts κs t status z out p = (enter_demand κs t status z out p).0.done_if
-
-pub keep_accepts : (t : Tally) (status : ℕ) (z : Answer) (out : Tally) → Keeps t status z out → (Done z) ↔ NoneHolds (enter_order t status)
-keep_accepts t status z out p = (keep_demand t status z out p).done_if
 
 pub encode_accepts : (κs : Lfts 2) (border : ℕ) (frame png : Lent) (z : Answer) (out : List ℕ) → Encodes κs border frame png z out → (Done z) ↔ NoneHolds (encode_order border frame.now png.now)
 encode_accepts κs border frame png z out p = (encode_demand κs border frame png z out p).0.done_if
@@ -190,11 +181,6 @@ some_transposed = ((refl, (refl, tt)), (refl, (refl, tt)), (refl, (refl, tt)))
 pub some_laid : NoneHolds (lay_order frame_length 1 1 1 1 (first_outside (record { left = 255; top = 191; across = 1; down = 1; x = pos 0; y = pos 0; on = 0; cut = 0 } ∷ [])))
 unfolding canvas_fits outside first_where
 some_laid = (refl, (refl, (refl, (refl, tt))))
-
--- the top status entered into an empty tally
-pub some_entered : NoneHolds (enter_order none_entered 22)
-unfolding sum_of
-some_entered = (refl, (refl, tt))
 
 -- a frame of 0 with border 0 makes a picture,
 encoded : encode_told 0 (zeros frame_length) (zeros file_length) ≡ done file_length
@@ -307,12 +293,6 @@ pub not_idle_canvas : (κs : Lfts 3) (frame : Lent) (ps : Listed) (width height 
     → (xs : List Placement) (q : Placement) (ys : List Placement) → ps.now ≡ xs ++ (q ∷ ys) → (k : ℕ) → k < length canvas.now → covers q (k % width) (k / width) ≡ true
     → Each (λ (y : Placement). covers y (k % width) (k / width) ≡ false) ys → (pixel_of frame.now q (k % width) (k / width) ≡ get_or canvas.now k 0 → ⊥) → out ≡ canvas.now → ⊥
 not_idle_canvas κs frame ps width height canvas z entries out p d xs q ys e k h on off = idle k (later_covers κs frame ps width height canvas z entries out p d xs q ys e k h on off)
-
--- the tally, which has a count for its status, as every one has that is lent
-pub not_idle_tally : (κs : Lfts 1) (t : LentTally) (status : ℕ) (z : Answer) (out : Tally) → Enters κs t status z out → Done z → status < length t.now.counts → out ≡ t.now → ⊥
-not_idle_tally κs t status z out p d l same =
-    let accepted = ap (λ (u : Told). u.number) (sym p.0) ∙ d in
-    omega (arith, one_more_lem t.now status accepted l, ap (λ (u : Tally). get_or u.counts status 0) (sym same ∙ p.1))
 
 -- the picture file, and the frame out of it
 pub not_idle_picture : (κs : Lfts 2) (border : ℕ) (frame png : Lent) (z : Answer) (out : List ℕ) → Encodes κs border frame png z out → Done z

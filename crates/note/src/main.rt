@@ -1,14 +1,12 @@
 // A clerk's note: the first value under a key in a record's sheet, or failing that on the cover of its batch.
 mod reading;
 
-ghost use Rattle.io.specs.Counts.{IsPrefixLen};
-
 use answer::Answer;
 use libc::{STDERR_FILENO, STDOUT_FILENO};
-use reading::{Found, read_file};
+use reading::read_arg;
 
 // How each sentence on standard error begins.
-pub(crate) const WHO: [u8; 6] = *b"note: ";
+const WHO: [u8; 6] = *b"note: ";
 
 // What is printed, in the report's manner. Each of these answers whether it was written whole.
 
@@ -71,15 +69,6 @@ fn tell<'a>(record: &'a [u8], cover: &'a [u8], key: &[u8]) -> bool {
 
 // The arguments.
 
-// Reads the file that an argument names.
-fn read_arg(i: usize, room: &mut [u8]) -> Found
-    ensures { IsPrefixLen result.len room.new }
-{
-    let mut path = io::buffer();
-    let n = os::arg(i, &mut path);
-    read_file(&path[..n], room)
-}
-
 // Each sheet is read with a byte more than the longest that can be accepted: what lies past that changes nothing (`note-enough` of crate
 // claims). A key that is too long for its room is asked for as an empty one: neither can be a key.
 fn by_names() {
@@ -87,8 +76,8 @@ fn by_names() {
     let mut record = [0u8; 28160];
     let mut cover = [0u8; 28160];
     let k = os::arg(1, &mut key);
-    let of_record = read_arg(2, &mut record);
-    let of_cover = read_arg(3, &mut cover);
+    let of_record = read_arg(&WHO, 2, &mut record);
+    let of_cover = read_arg(&WHO, 3, &mut cover);
     let n = of_record.len;
     let m = of_cover.len;
     if of_record.whole & of_cover.whole {

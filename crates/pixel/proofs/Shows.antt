@@ -29,13 +29,13 @@ module _ (f g : ℕ → ℕ) where
   abbrev Differ : ℕ → Type 0
   Differ n = (j : ℕ) × (j < n) × (f j ≡ g j → ⊥)
 
-  one_more_lem : (n : ℕ) (b : Bool) → eqb (f n) (g n) ≡ b → Alike n → Alike (suc n) ⊎ Differ (suc n)
-  one_more_lem n true e h = inl (λ j l. ⊎_elim (λ q. subst (λ (m : ℕ). f m ≡ g m) (sym q) (eqb-true _ _ e)) (λ m. h j m) (eq-or-lt_of_le (le_of_suc-le-suc l)))
-  one_more_lem n false e h = inr (n, omega arith, eqb-false _ _ e)
+  one_more : (n : ℕ) (b : Bool) → eqb (f n) (g n) ≡ b → Alike n → Alike (suc n) ⊎ Differ (suc n)
+  one_more n true e h = inl (λ j l. ⊎_elim (λ q. subst (λ (m : ℕ). f m ≡ g m) (sym q) (eqb-true _ _ e)) (λ m. h j m) (eq-or-lt_of_le (le_of_suc-le-suc l)))
+  one_more n false e h = inr (n, omega arith, eqb-false _ _ e)
 
   alike_or_differ : (n : ℕ) → Alike n ⊎ Differ n
   alike_or_differ zero = inl (λ j l. absurd (not-suc-le-zero l))
-  alike_or_differ (suc n) = ⊎_elim (λ h. one_more_lem n (eqb (f n) (g n)) refl h) (λ s. inr (s.0, omega (arith, s.1), s.2)) (alike_or_differ n)
+  alike_or_differ (suc n) = ⊎_elim (λ h. one_more n (eqb (f n) (g n)) refl h) (λ s. inr (s.0, omega (arith, s.1), s.2)) (alike_or_differ n)
 
 -- a colour for 1 and another for 0 tell the bits apart
 apart : (a x y : ℕ) → (a ≡ black → ⊥) → x < 2 → y < 2 → choose (eqb x 1) a black ≡ choose (eqb y 1) a black → x ≡ y

@@ -3,7 +3,7 @@ use Rattle.std.specs.Prelude.{ℕ, ◌≡◌}
 use seplogic.Ra.Ura.{Ura}
 use base.Logic.{SProp, ent, sep, emp, fst∗, snd∗, via, mono_r, id⊢}
 use prog.Memory.{Memory}
-use prog.Routine.{Name, Routine}
+use prog.Routine.{Callee, Routine}
 use types.Logic.{Logic}
 use contract.Lifetimes.{Lfts}
 use contract.Monad.{Fun, conj, conj_l, conj_r, fact, fact_i, fact_use}
@@ -15,7 +15,7 @@ use borrow.Fn.World.{World}
 -- An operation: its key, its signature T and its clauses are what the compiler makes of the source; `clauses` are its `requires` and
 -- `ensures` at any model of the logic. Says is what the `ensures` tells in plain words, and `seen` what a caller sees of the result.
 pub record Operation : Type 3 where
-  pub key : Name
+  pub key : Callee
   pub T : Ended
   pub clauses : (M : Type 1) (𝓤 : Ura M) (𝓛 : Logic 𝓤) → (Memory → SProp 𝓤) → (Routine → Fun 𝓤) → Clauses 𝓤 T
   pub Says : (κs : Lfts T.signature.lifetimes) → Args T.signature κs → Res T.signature κs → AtExit T κs → Type 0
@@ -78,7 +78,7 @@ whole z = z
 abbrev pub placed : {X : Type 0} → Bor X → (ℕ × ℕ) × X
 placed z = (z.ref_ptr, z.now)
 
--- one clause tells its fact, two in a row tell both, and three or four tell all
+-- one clause tells its fact, two in a row tell both, and three all three
 pub one_tells : {M : Type 1} (𝓤 : Ura M) (A : Type 0) → ent 𝓤 (fact 𝓤 A) (fact 𝓤 A)
 one_tells 𝓤 A = id⊢ 𝓤 (fact 𝓤 A)
 
@@ -87,6 +87,3 @@ two_tell 𝓤 A B = fact_use 𝓤 A (fst∗ 𝓤 (fact 𝓤 A) (fact 𝓤 B)) (�
 
 pub three_tell : {M : Type 1} (𝓤 : Ura M) (A B C : Type 0) → ent 𝓤 (sep 𝓤 (fact 𝓤 A) (sep 𝓤 (fact 𝓤 B) (fact 𝓤 C))) (fact 𝓤 (A × (B × C)))
 three_tell 𝓤 A B C = via 𝓤 (sep 𝓤 (fact 𝓤 A) (fact 𝓤 (B × C))) (mono_r 𝓤 (fact 𝓤 A) (two_tell 𝓤 B C)) (two_tell 𝓤 A (B × C))
-
-pub four_tell : {M : Type 1} (𝓤 : Ura M) (A B C D : Type 0) → ent 𝓤 (sep 𝓤 (fact 𝓤 A) (sep 𝓤 (fact 𝓤 B) (sep 𝓤 (fact 𝓤 C) (fact 𝓤 D)))) (fact 𝓤 (A × (B × (C × D))))
-four_tell 𝓤 A B C D = via 𝓤 (sep 𝓤 (fact 𝓤 A) (fact 𝓤 (B × (C × D)))) (mono_r 𝓤 (fact 𝓤 A) (three_tell 𝓤 B C D)) (two_tell 𝓤 A (B × (C × D)))

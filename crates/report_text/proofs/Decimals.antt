@@ -53,9 +53,9 @@ last_by n bytes f rest h w =
     stored bytes f (48 + rest) (omega (arith, w.long, w.within)) ∙ sym (w.so_far ∙ rw (lt-ltb rest 10 h))
 
 -- the same over the place before `from`
-pub one_more_lem : {n : ℕ} {bytes : List ℕ} (from : ℕ) {rest : ℕ} → 10 ≤ rest → Found n bytes from rest → Found n (set bytes (from - 1) (48 + rest % 10)) (from - 1) (rest / 10)
-one_more_lem zero h w = absurd (omega (arith, w.some))
-one_more_lem {n} {bytes} (suc f) {rest} h w = let e : suc f - 1 ≡ f = omega arith in rw e (more_by n bytes f rest h w)
+pub one_more : {n : ℕ} {bytes : List ℕ} (from : ℕ) {rest : ℕ} → 10 ≤ rest → Found n bytes from rest → Found n (set bytes (from - 1) (48 + rest % 10)) (from - 1) (rest / 10)
+one_more zero h w = absurd (omega (arith, w.some))
+one_more {n} {bytes} (suc f) {rest} h w = let e : suc f - 1 ≡ f = omega arith in rw e (more_by n bytes f rest h w)
 
 pub last_one : {n : ℕ} {bytes : List ℕ} (from : ℕ) {rest : ℕ} → rest < 10 → Found n bytes from rest → drop (from - 1) (set bytes (from - 1) (48 + rest)) ≡ decimal_in 20 n
 last_one zero h w = absurd (omega (arith, w.some))

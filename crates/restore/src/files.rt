@@ -1,9 +1,16 @@
 // Files for the programs that keep and restore records: new ones are made and flushed to the disk, and what fails is said in a sentence.
+ghost use Rattle.io.specs.Counts.{IsPrefixLen};
 ghost use Rattle.libc.specs.Io.{Ended};
 
-use crate::WHO;
 use crate::reading::complain;
 use libc::{EINVAL, PATH_MAX, STDERR_FILENO};
+
+// A number of bytes, and no more than there are.
+pub(crate) fn within(n: usize, bytes: &[u8]) -> usize
+    ensures { IsPrefixLen result bytes.now }
+{
+    if n <= bytes.len() { n } else { bytes.len() }
+}
 
 // Writes all bytes and flushes them to the disk.
 fn put(fd: i32, bytes: &[u8]) -> bool {
@@ -13,9 +20,23 @@ fn put(fd: i32, bytes: &[u8]) -> bool {
     libc::fsync(fd) == 0
 }
 
+// How much of a path names its folder: what stands up to the last slash.
+fn folder_length(path: &[u8]) -> usize
+    ensures { IsPrefixLen result path.now }
+{
+    let mut n = path.len();
+    while 0 < n {
+        if path[n - 1] == b'/' {
+            return n;
+        }
+        n -= 1;
+    }
+    0
+}
+
 // Opens the folder in which a path lies.
 fn open_folder(path: &[u8]) -> i32 {
-    let n = pieces::folder_length(path);
+    let n = folder_length(path);
     if n == 0 {
         return os::open_read(b".");
     }
@@ -34,18 +55,27 @@ fn put_folder(path: &[u8]) -> bool {
 }
 
 // Removes a file that was made.
-pub(crate) fn remove(path: &[u8]) {
+pub(crate) fn remove(who: &[u8], path: &[u8]) {
     if os::unlink(path) != 0 {
-        complain(b"cannot remove ", path);
+        complain(who, b"cannot remove ", path);
     }
+}
+
+// The byte at a place, 0 past the end.
+pub(crate) fn byte(text: &[u8], i: usize) -> u8 {
+    if i < text.len() { text[i] } else { 0 }
 }
 
 // A path as the system reads it, up to a 0. One that is cut here is refused where it is opened.
 fn system_path(path: &[u8]) -> [u8; PATH_MAX]
     ensures { Ended result }
 {
-    let joined = pieces::joined(path, b"");
-    let mut bytes = joined.bytes;
+    let mut bytes = io::buffer();
+    let mut i: usize = 0;
+    while i < PATH_MAX - 1 {
+        bytes[i] = byte(path, i);
+        i += 1;
+    }
     bytes[PATH_MAX - 1] = 0;
     bytes
 }
@@ -61,9 +91,9 @@ fn taken(path: &[u8]) -> bool {
 }
 
 // Whether a file can be made without overwriting one; where it cannot, this is said.
-pub(crate) fn is_free(path: &[u8]) -> bool {
+pub(crate) fn is_free(who: &[u8], path: &[u8]) -> bool {
     if taken(path) {
-        io::write_all(STDERR_FILENO, &WHO);
+        io::write_all(STDERR_FILENO, who);
         io::write_all(STDERR_FILENO, b"cannot write ");
         io::write_all(STDERR_FILENO, path);
         io::write_all(STDERR_FILENO, b": it is there already\n");
@@ -73,10 +103,10 @@ pub(crate) fn is_free(path: &[u8]) -> bool {
 }
 
 // Makes a file that was not there, with these bytes, and flushes it and its folder to the disk. Where that fails it is removed.
-pub(crate) fn write_new(path: &[u8], bytes: &[u8]) -> bool {
+pub(crate) fn write_new(who: &[u8], path: &[u8], bytes: &[u8]) -> bool {
     let fd = os::create(path);
     if fd < 0 {
-        complain(b"cannot write ", path);
+        complain(who, b"cannot write ", path);
         return false;
     }
     let mut whole = put(fd, bytes);
@@ -87,8 +117,8 @@ pub(crate) fn write_new(path: &[u8], bytes: &[u8]) -> bool {
         whole = put_folder(path);
     }
     if !whole {
-        complain(b"cannot write ", path);
-        remove(path);
+        complain(who, b"cannot write ", path);
+        remove(who, path);
     }
     whole
 }

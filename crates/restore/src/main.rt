@@ -10,7 +10,7 @@ use picture::FILE_LENGTH;
 use settings::{FRAME_LENGTH, Look};
 
 // How each sentence on standard error begins.
-pub(crate) const WHO: [u8; 9] = *b"restore: ";
+const WHO: [u8; 9] = *b"restore: ";
 
 // A pin byte, and whether the argument is one.
 #[derive(Drop)]
@@ -73,8 +73,8 @@ fn tell(answer: Answer) {
 
 // Keeps a strip under a name that is free, and says so once it is on the disk.
 fn keep(path: &[u8], strip: &[u8], answer: Answer) {
-    if files::is_free(path) {
-        if files::write_new(path, strip) {
+    if files::is_free(&WHO, path) {
+        if files::write_new(&WHO, path, strip) {
             tell(answer);
         }
     }
@@ -94,16 +94,14 @@ fn restore(pins: u8, png: &[u8], path: &[u8]) {
         tell(answer);
         return;
     }
-    let len = pieces::within(answer::value(answer), &strip);
+    let len = files::within(answer::value(answer), &strip);
     keep(path, &strip[..len], answer);
 }
 
 // Reads the picture, with a byte more than every picture has, and restores its strip.
 fn by_names(pins: u8, strip_path: &[u8]) {
-    let mut path = io::buffer();
-    let n = os::arg(2, &mut path);
     let mut png = [0u8; FILE_LENGTH + 1];
-    let found = reading::read_file(&path[..n], &mut png);
+    let found = reading::read_arg(&WHO, 2, &mut png);
     if found.whole {
         let len = found.len;
         restore(pins, &png[..len], strip_path);

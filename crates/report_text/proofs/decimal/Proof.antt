@@ -1,7 +1,7 @@
 -- `report_text::decimal` meets its contract.
 use lib.ListN.{length-set}
 use native.Mathlib.Omega.{arith}
-use Rattle.report_text.proofs.Decimals.{Found, none_found, one_more_lem, last_one}
+use Rattle.report_text.proofs.Decimals.{Found, none_found, one_more, last_one}
 use Rattle.report_text.proofs.decimal.Statement.{statement}
 use Rattle.report_text.proofs.decimal.Tie as tie
 
@@ -30,7 +30,7 @@ loop-less : tie.Need-loop-smaller invariant-loop decreases-loop
 loop-less c = omega arith
 
 loop-again : tie.Need-loop-preserved invariant-loop decreases-loop
-loop-again c = one_more_lem _ c.loop-test.true c.before.loop.invariant
+loop-again c = one_more _ c.loop-test.true c.before.loop.invariant
 
 sub-from-2 : tie.Need-overflow-sub-from-2 invariant-loop decreases-loop
 sub-from-2 c = omega (arith, c.before.loop.invariant.some)
