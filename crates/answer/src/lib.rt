@@ -4,7 +4,7 @@ ghost use Rattle.promises.specs.Order.{check, after};
 ghost use Rattle.answer.specs.Told.{unfit_number, later_number, spot_number, told_of};
 
 // Refusals by settings and lengths; none names a place.
-#[derive(Drop)]
+#[derive(Clone, Copy)]
 pub enum Unfit {
     PinsAbove,
     TextBack,
@@ -17,7 +17,7 @@ pub enum Unfit {
 }
 
 // Refusals of operations added later that name no place.
-#[derive(Drop)]
+#[derive(Clone, Copy)]
 pub enum Later {
     OtherChip,
     ShortDestination,
@@ -27,7 +27,7 @@ pub enum Later {
 }
 
 // Refusals that name a place.
-#[derive(Drop)]
+#[derive(Clone, Copy)]
 pub enum Spot {
     // The index of the first stray pixel.
     Stray,
@@ -44,7 +44,7 @@ pub enum Spot {
 }
 
 // Done with its value, or refused: each case holds what document 01 has told of it.
-#[derive(Drop)]
+#[derive(Clone, Copy)]
 pub enum Answer {
     Done(usize),
     Unfit(Unfit),

@@ -11,7 +11,7 @@ use answer::{Answer, Later, Spot};
 use plans::Placement;
 
 // A side of a rectangle against the canvas: how many of its places are cut at the left or top edge, where the next one goes, and how many are kept.
-#[derive(Drop)]
+#[derive(Clone, Copy)]
 struct Side {
     cut: usize,
     start: usize,

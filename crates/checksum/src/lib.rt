@@ -15,7 +15,7 @@ const MODULUS: u32 = 65521;
 const BLOCK: usize = 2048;
 
 // The two sums of Adler-32: that of the bytes, and that of those sums.
-#[derive(Drop)]
+#[derive(Clone, Copy)]
 struct Sums {
     low: u32,
     high: u32,

@@ -3,7 +3,7 @@ use answer::Answer;
 use libc::{STDERR_FILENO, STDIN_FILENO, STDOUT_FILENO};
 
 // A number of address pins, and whether the argument is one.
-#[derive(Drop)]
+#[derive(Clone, Copy)]
 struct Pins {
     given: bool,
     k: usize,

@@ -6,7 +6,7 @@ ghost use Rattle.counter.specs.Steps.{clears_b4, ends_count, row_lasts, line_las
 use settings::{Rule, Settings};
 
 // The address bits B0-B15, and the counts of the X and Y dividers.
-#[derive(Drop)]
+#[derive(Clone, Copy)]
 pub struct Counter {
     pub address: u16,
     pub x: u8,

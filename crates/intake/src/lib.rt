@@ -10,7 +10,7 @@ use answer::Answer;
 use settings::{Look, Rule, Settings};
 
 // What is taken in of a sheet: the answer, the settings where it is Done, and the number of annotations of an accepted sheet.
-#[derive(Drop)]
+#[derive(Clone, Copy)]
 pub struct Intake {
     pub answer: Answer,
     pub settings: Settings,

@@ -8,7 +8,7 @@ ghost use Rattle.lookup.specs.Steps.{to_line_end, keyed_by, found_in, piece_foun
 use answer::{Answer, Later, Spot};
 
 // The first value under a key in one sheet: whether there is one, where it begins, and its number of bytes.
-#[derive(Drop)]
+#[derive(Clone, Copy)]
 struct Found {
     found: bool,
     from: usize,
@@ -16,7 +16,7 @@ struct Found {
 }
 
 // A piece of one of the two sheets: of the cover or of the record's, from which byte on, and its number of bytes.
-#[derive(Drop)]
+#[derive(Clone, Copy)]
 struct Piece {
     in_cover: bool,
     from: usize,
@@ -24,7 +24,7 @@ struct Piece {
 }
 
 // What is answered of a key in two sheets, and the piece that its value is.
-#[derive(Drop)]
+#[derive(Clone, Copy)]
 struct Held {
     answer: Answer,
     piece: Piece,

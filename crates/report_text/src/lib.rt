@@ -32,7 +32,7 @@ pub struct Text {
 }
 
 // The digits of a number: those from `from` on.
-#[derive(Drop)]
+#[derive(Clone, Copy)]
 struct Digits {
     bytes: [u8; 20],
     from: usize,

@@ -13,7 +13,7 @@ use settings::{FRAME_LENGTH, Look};
 const WHO: [u8; 9] = *b"restore: ";
 
 // A pin byte, and whether the argument is one.
-#[derive(Drop)]
+#[derive(Clone, Copy)]
 struct Pins {
     given: bool,
     pins: u8,

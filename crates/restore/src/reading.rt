@@ -4,7 +4,7 @@ ghost use Rattle.io.specs.Counts.{IsPrefixLen};
 use libc::STDERR_FILENO;
 
 // What was read of a file: nothing is told of it where it cannot be read.
-#[derive(Drop)]
+#[derive(Clone, Copy)]
 pub(crate) struct Found {
     pub whole: bool,
     pub len: usize,

@@ -28,7 +28,7 @@ const WRITES_KEY: [u8; 7] = *b"writes=";
 const AT_KEY: [u8; 3] = *b"at=";
 
 // The classes of bytes that fields are made of.
-#[derive(Drop)]
+#[derive(Clone, Copy)]
 enum Class {
     Deed,
     Hex,
@@ -38,14 +38,14 @@ enum Class {
 }
 
 // How far a reading goes: whether it is whole, and its number of bytes or the place where it sticks.
-#[derive(Drop)]
+#[derive(Clone, Copy)]
 struct Step {
     whole: bool,
     size: usize,
 }
 
 // How far a reading goes, and a number that it finds.
-#[derive(Drop)]
+#[derive(Clone, Copy)]
 struct Counted {
     whole: bool,
     size: usize,
@@ -53,7 +53,7 @@ struct Counted {
 }
 
 // How far a reading goes, and the rule that it finds.
-#[derive(Drop)]
+#[derive(Clone, Copy)]
 struct Ruled {
     whole: bool,
     size: usize,
@@ -61,7 +61,7 @@ struct Ruled {
 }
 
 // How far a reading goes, the rule, and the number of writes.
-#[derive(Drop)]
+#[derive(Clone, Copy)]
 struct RuledCount {
     whole: bool,
     size: usize,
@@ -70,7 +70,7 @@ struct RuledCount {
 }
 
 // How far a reading goes, and the write addresses that it finds.
-#[derive(Drop)]
+#[derive(Clone, Copy)]
 struct Writes {
     whole: bool,
     size: usize,
@@ -78,7 +78,7 @@ struct Writes {
 }
 
 // What one pass over a sheet finds: its fields, the length of its deed and where its annotations begin, or the place where it is broken.
-#[derive(Drop)]
+#[derive(Clone, Copy)]
 pub struct Outline {
     pub whole: bool,
     pub place: usize,
@@ -92,7 +92,7 @@ pub struct Outline {
 }
 
 // Where a part of a sheet begins, and its number of bytes.
-#[derive(Drop)]
+#[derive(Clone, Copy)]
 pub struct Span {
     pub from: usize,
     pub size: usize,

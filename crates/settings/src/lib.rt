@@ -10,20 +10,20 @@ ghost use Rattle.settings.specs.Modes.{width, dots, border, font_size, mode_name
 use answer::{Answer, Unfit};
 
 // The look of a frame: the pin byte, fixed for a frame.
-#[derive(Drop)]
+#[derive(Clone, Copy)]
 pub struct Look {
     pub pins: u8,
 }
 
 // The fetch rule: what a line's end counts where it clears a set B4. Under rule 1 nothing, under rule 2 the Y divider, as where B4 falls.
-#[derive(Drop)]
+#[derive(Clone, Copy)]
 pub enum Rule {
     One,
     Two,
 }
 
 // All that decides a frame but its bytes: the SAM's control word, the look, and the fetch rule.
-#[derive(Drop)]
+#[derive(Clone, Copy)]
 pub struct Settings {
     pub word: u16,
     pub look: Look,
@@ -31,7 +31,7 @@ pub struct Settings {
 }
 
 // A mode's name: the first `len` bytes, the rest 0.
-#[derive(Drop)]
+#[derive(Clone, Copy)]
 pub struct Name {
     pub bytes: [u8; 3],
     pub len: usize,

@@ -11,7 +11,7 @@ use settings::Rule;
 
 // What a sheet holds: its pins, its rule, its write addresses with 0 in the places that are not used, and its number of annotations.
 // A refused sheet's answer has the place; its rule is 1 and its other fields are 0.
-#[derive(Drop)]
+#[derive(Clone, Copy)]
 pub struct Sheet {
     pub answer: Answer,
     pub pins: u8,

@@ -213,7 +213,7 @@ fn length_answer(settings: Settings, image: usize, strip: usize) -> Answer
 }
 
 // What fetching answers, and how many bytes of the image it touched.
-#[derive(Drop)]
+#[derive(Clone, Copy)]
 pub struct Fetching {
     pub answer: Answer,
     pub touched: usize,

@@ -6,7 +6,7 @@ use plans::Placement;
 use trial::{answered, cut, form, lay, least, mark, one, say, sum, unchanged_from};
 
 // How many bytes of the frame are lent, the sides that are stated of the canvas, and how many bytes of it are lent.
-#[derive(Drop)]
+#[derive(Clone, Copy)]
 struct Lent {
     frame: usize,
     width: usize,
@@ -15,7 +15,7 @@ struct Lent {
 }
 
 // What laying answers, and the whole list afterwards.
-#[derive(Drop)]
+#[derive(Clone, Copy)]
 struct Laid {
     answer: Answer,
     placements: [Placement; 33],
