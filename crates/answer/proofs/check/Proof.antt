@@ -4,16 +4,16 @@ use borrow.Author.Rules.{rules}
 use Rattle.answer.proofs.check.Statement.{statement}
 use Rattle.answer.proofs.check.Tie as tie
 
-number-requires : tie.Need-number-requires
-number-requires c κs = search rules
+number-done-requires : tie.Need-number-done-requires
+number-done-requires c κs = search rules
 
-returns : tie.Need-returns
+returns-then-done-when : tie.Need-returns-then-done-when
 unfolding after
-returns c = simp (rw c.before.number.ensures at c.if1.true)
+returns-then-done-when c = simp (rw c.before.number-done.ensures at c.if-done-when.true)
 
-returns-2 : tie.Need-returns-2
+returns-else-done-when : tie.Need-returns-else-done-when
 unfolding after
-returns-2 c = simp (rw c.before.number.ensures at c.if1.false)
+returns-else-done-when c = simp (rw c.before.number-done.ensures at c.if-done-when.false)
 
-pub check-spec : {M : Type 1} → statement M
-check-spec = tie.close (tie.spec number-requires returns returns-2)
+pub check_spec : {M : Type 1} → statement M
+check_spec = tie.close (tie.spec number-done-requires returns-then-done-when returns-else-done-when)

@@ -11,82 +11,82 @@ use Rattle.back.proofs.Shapes.{digit_more, values_le, count_le, number_small, el
 use Rattle.back.proofs.byte.Statement.{statement}
 use Rattle.back.proofs.byte.Tie as tie
 
-abbrev invariant-loop : tie.invariant-loop
+abbrev invariant-loop : tie.invariant-loop-j
 invariant-loop values count dots frame at v₀ j₀ v j = (j ≤ count) × (v ≡ digits values (λ (i : ℕ). value values (get_or frame (at + i * dots) 0)) j)
 
-abbrev decreases-loop : tie.decreases-loop
+abbrev decreases-loop : tie.decreases-loop-j
 decreases-loop values count dots frame at v₀ j₀ v j = count - j
 
 -- the number so far times the values is small, and the pixel that is read lies in the frame
-low : (c : tie.In-loop invariant-loop decreases-loop) → c.before.loop.v * c.before.before.before.args.values ≤ 1020
+low : (c : tie.In-loop-j invariant-loop decreases-loop) → c.before.loop-j.v * c.before.before.before.args.values ≤ 1020
 low c =
     let s = c.before.before.before in
-    let l : c.before.loop.v ≤ 255 = omega (arith, c.before.loop.invariant.1, number_small s.requires.0 (λ (i : ℕ). get_or s.args.frame.now (s.args.at + i * s.args.dots) 0) c.before.loop.j c.before.loop.invariant.0) in
+    let l : c.before.loop-j.v ≤ 255 = omega (arith, c.before.loop-j.invariant.1, number_small s.requires.0 (λ (i : ℕ). get_or s.args.frame.now (s.args.at + i * s.args.dots) 0) c.before.loop-j.j c.before.loop-j.invariant.0) in
     omega (arith, mul-le-mul_right s.args.values l, values_le s.requires.0)
 
-place : (c : tie.In-loop invariant-loop decreases-loop) → c.before.loop.j * c.before.before.before.args.dots < c.before.before.before.args.count * c.before.before.before.args.dots
-place c = element_within c.before.before.before.requires.0 c.before.loop.j (omega arith)
+place : (c : tie.In-loop-j invariant-loop decreases-loop) → c.before.loop-j.j * c.before.before.before.args.dots < c.before.before.before.args.count * c.before.before.before.args.dots
+place c = element_within c.before.before.before.requires.0 c.before.loop-j.j (omega arith)
 
-loop-holds : tie.Need-loop-init invariant-loop decreases-loop
-loop-holds c = (zero-le, refl)
+loop-j-init : tie.Need-loop-j-init invariant-loop decreases-loop
+loop-j-init c = (zero-le, refl)
 
-mul-v : tie.Need-overflow-mul-v invariant-loop decreases-loop
-mul-v c = omega (arith, low c)
+overflow_mul-v : tie.Need-overflow_mul-v invariant-loop decreases-loop
+overflow_mul-v c = omega (arith, low c)
 
-mul-value : tie.Need-overflow-mul-value invariant-loop decreases-loop
-mul-value c = omega (arith, place c)
+overflow_mul-j : tie.Need-overflow_mul-j invariant-loop decreases-loop
+overflow_mul-j c = omega (arith, place c)
 
-add-value : tie.Need-overflow-add-value invariant-loop decreases-loop
-add-value c = omega (arith, place c)
+overflow_add-at : tie.Need-overflow_add-at invariant-loop decreases-loop
+overflow_add-at c = omega (arith, place c)
 
-shared-slice-read-value : tie.Need-shared-slice-read-value invariant-loop decreases-loop
-shared-slice-read-value c = omega (arith, place c.before)
+bounds-frame-at : tie.Need-bounds-frame-at invariant-loop decreases-loop
+bounds-frame-at c = omega (arith, place c.before)
 
 value-requires : tie.Need-value-requires invariant-loop decreases-loop
 value-requires c κs = search rules
 
-add-v : tie.Need-overflow-add-v invariant-loop decreases-loop
-add-v c = omega (arith, low c.before.before, c.value.ensures.1)
+overflow_add-v : tie.Need-overflow_add-v invariant-loop decreases-loop
+overflow_add-v c = omega (arith, low c.before.before, c.value.ensures.1)
 
-add-j : tie.Need-overflow-add-j invariant-loop decreases-loop
-add-j c = omega (arith, count_le c.before.before.before.before.before.requires.0)
+overflow_add-j : tie.Need-overflow_add-j invariant-loop decreases-loop
+overflow_add-j c = omega (arith, count_le c.before.before.before.before.before.requires.0)
 
-loop-less : tie.Need-loop-smaller invariant-loop decreases-loop
-loop-less c = omega arith
+loop-j-smaller : tie.Need-loop-j-smaller invariant-loop decreases-loop
+loop-j-smaller c = omega arith
 
-loop-again : tie.Need-loop-preserved invariant-loop decreases-loop
-loop-again c =
+loop-j-preserved : tie.Need-loop-j-preserved invariant-loop decreases-loop
+loop-j-preserved c =
     let l = c.before.before.before in
     let s = l.before.before in
-    (omega arith, digit_more s.args.values l.loop.j (λ (i : ℕ). value s.args.values (get_or s.args.frame.now (s.args.at + i * s.args.dots) 0)) l.loop.invariant.1 c.value.ensures.0)
+    (omega arith, digit_more s.args.values l.loop-j.j (λ (i : ℕ). value s.args.values (get_or s.args.frame.now (s.args.at + i * s.args.dots) 0)) l.loop-j.invariant.1 c.value.ensures.0)
 
-cast-result : tie.Need-overflow-cast-result invariant-loop decreases-loop
-cast-result c =
+overflow_cast-result : tie.Need-overflow_cast-result invariant-loop decreases-loop
+overflow_cast-result c =
     let s = c.before.before.before in
-    omega (arith, c.before.loop.invariant.1, number_small s.requires.0 (λ (i : ℕ). get_or s.args.frame.now (s.args.at + i * s.args.dots) 0) c.before.loop.j c.before.loop.invariant.0)
+    omega (arith, c.before.loop-j.invariant.1, number_small s.requires.0 (λ (i : ℕ). get_or s.args.frame.now (s.args.at + i * s.args.dots) 0) c.before.loop-j.j c.before.loop-j.invariant.0)
 
 returns : tie.Need-returns invariant-loop decreases-loop
 unfolding read
 returns c =
     let s = c.before.before.before in
-    let e : c.before.loop.j ≡ s.args.count = omega arith in
-    c.before.loop.invariant.1 ∙ ap (digits s.args.values (λ (i : ℕ). value s.args.values (get_or s.args.frame.now (s.args.at + i * s.args.dots) 0))) e
+    let e : c.before.loop-j.j ≡ s.args.count = omega arith in
+    c.before.loop-j.invariant.1 ∙ ap (digits s.args.values (λ (i : ℕ). value s.args.values (get_or s.args.frame.now (s.args.at + i * s.args.dots) 0))) e
 
-pub byte-spec : {M : Type 1} → statement M
-byte-spec =
+pub byte_spec : {M : Type 1} → statement M
+byte_spec =
     tie.close
     (tie.spec
     invariant-loop
     decreases-loop
-    loop-holds
-    mul-v
-    mul-value
-    add-value
-    shared-slice-read-value
+    loop-j-init
+    overflow_mul-v
+    overflow_mul-j
+    overflow_add-at
+    bounds-frame-at
     value-requires
-    add-v
-    add-j
-    loop-less
-    loop-again
-    cast-result
+    overflow_add-v
+    overflow_add-j
+    loop-j-smaller
+    loop-j-preserved
+    overflow_cast-result
     returns)

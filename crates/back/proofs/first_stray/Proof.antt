@@ -13,14 +13,14 @@ use Rattle.back.proofs.first_stray.Tie as tie
 abbrev start_of : tie.After-draw → tie.Start
 start_of c = c.before.before.before.before
 
-slice-aggregate-draw : tie.Need-slice-aggregate-draw
-slice-aggregate-draw c = search rules
+slice_bounds-draw-end : tie.Need-slice_bounds-draw-end
+slice_bounds-draw-end c = search rules
 
 draw-requires : tie.Need-draw-requires
 draw-requires c κs = search rules
 
-slice-aggregate-differ : tie.Need-slice-aggregate-differ
-slice-aggregate-differ c = search rules
+slice_bounds-differ-end : tie.Need-slice_bounds-differ-end
+slice_bounds-differ-end c = search rules
 
 differ-requires : tie.Need-differ-requires
 differ-requires c κs = search rules
@@ -28,23 +28,23 @@ differ-requires c κs = search rules
 search-requires : tie.Need-search-requires
 search-requires c κs = search rules
 
-returns : tie.Need-returns
-returns c = search rules
+returns-then-differ : tie.Need-returns-then-differ
+returns-then-differ c = search rules
 
-returns-2 : tie.Need-returns-2
+returns-2 : tie.Need-returns
 returns-2 c =
     let d = c.before.before.before.before in
     let s = start_of d in
-    sym (drawing_clean s.args.look s.args.strip.now s.args.strip.now s.args.frame.now _ _ s.pre.0 s.pre.1 s.pre.2 (omega (arith, length-replicate {A = ℕ} frame_length 0)) d.draw.ensures.1 (c.before.differ.ensures c.if1.false))
+    sym (drawing_clean s.args.look s.args.strip.now s.args.strip.now s.args.frame.now _ _ s.requires.0 s.requires.1 s.requires.2 (omega (arith, length-replicate {A = ℕ} frame_length 0)) d.draw.ensures.1 (c.before.differ.ensures c.if-differ.false))
 
-pub first-stray-spec : {M : Type 1} → statement M
-first-stray-spec =
+pub first_stray_spec : {M : Type 1} → statement M
+first_stray_spec =
     tie.close
     (tie.spec
-    slice-aggregate-draw
+    slice_bounds-draw-end
     draw-requires
-    slice-aggregate-differ
+    slice_bounds-differ-end
     differ-requires
     search-requires
-    returns
+    returns-then-differ
     returns-2)

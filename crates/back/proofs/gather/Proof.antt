@@ -17,11 +17,11 @@ abbrev start_of : tie.After-width → tie.Start
 start_of c = c.before.before.before.before
 
 -- the width, by the test
-is_32 : (c : tie.Then1) → width (start_of c.before).args.look ≡ 32
-is_32 c = sym c.before.width.ensures ∙ c.if1.true
+is_32 : (c : tie.Then-width-eq32) → width (start_of c.before).args.look ≡ 32
+is_32 c = sym c.before.width.ensures ∙ c.if-width-eq32.true
 
-is-16 : (c : tie.Else1) → width (start_of c.before).args.look ≡ 16
-is-16 c = ⊎_elim (λ e. e) (λ e. absurd (c.if1.false (c.before.width.ensures ∙ e))) (width_cases (start_of c.before).args.look)
+is-16 : (c : tie.Else-width-eq32) → width (start_of c.before).args.look ≡ 16
+is-16 c = ⊎_elim (λ e. e) (λ e. absurd (c.if-width-eq32.false (c.before.width.ensures ∙ e))) (width_cases (start_of c.before).args.look)
 
 gm-requires : tie.Need-gm-requires
 gm-requires c κs = search rules
@@ -32,74 +32,74 @@ width-requires c κs = search rules
 lines-requires : tie.Need-lines-requires
 lines-requires c κs = (bits_one, (start_of c.before.before.before).requires.1, omega (arith, is_32 c.before.before, (start_of c.before.before.before).requires.2))
 
-lines-requires-2 : tie.Need-lines-requires-2
-lines-requires-2 c κs = (pairs_two, (start_of c.before.before.before).requires.1, omega (arith, is_32 c.before.before, (start_of c.before.before.before).requires.2))
+lines-requires-else-bits : tie.Need-lines-requires-else-bits
+lines-requires-else-bits c κs = (pairs_two, (start_of c.before.before.before).requires.1, omega (arith, is_32 c.before.before, (start_of c.before.before.before).requires.2))
 
-lines-requires-3 : tie.Need-lines-requires-3
-lines-requires-3 c κs = (bits_two, (start_of c.before.before.before).requires.1, omega (arith, is-16 c.before.before, (start_of c.before.before.before).requires.2))
+lines-requires-then-bits-2 : tie.Need-lines-requires-then-bits-2
+lines-requires-then-bits-2 c κs = (bits_two, (start_of c.before.before.before).requires.1, omega (arith, is-16 c.before.before, (start_of c.before.before.before).requires.2))
 
-lines-requires-4 : tie.Need-lines-requires-4
-lines-requires-4 c κs = (pairs_four, (start_of c.before.before.before).requires.1, omega (arith, is-16 c.before.before, (start_of c.before.before.before).requires.2))
+lines-requires-else-bits-2 : tie.Need-lines-requires-else-bits-2
+lines-requires-else-bits-2 c κs = (pairs_four, (start_of c.before.before.before).requires.1, omega (arith, is-16 c.before.before, (start_of c.before.before.before).requires.2))
 
-same_length : tie.Need-same-length
-same_length c = search rules
+shape_of-strip-then-bits : tie.Need-shape_of-strip-then-bits
+shape_of-strip-then-bits c = search rules
 
-returns : tie.Need-returns
-returns c =
+returns-then-bits : tie.Need-returns-then-bits
+returns-then-bits c =
     let t = c.before.before.before.before.before in
     let s = start_of t.before in
     let w = is_32 t in
-    by (λ i _ _. as_bits s.args.look s.pre.0 1 (rw (t.before.before.gm.ensures, gm_low s.args.look) at c.before.before.before.before.if2.true) (ap (λ (m : ℕ). 256 / m) w) s.args.frame.now i)
+    by (λ i _ _. as_bits s.args.look s.requires.0 1 (rw (t.before.before.gm.ensures, gm_low s.args.look) at c.before.before.before.before.if-bits.true) (ap (λ (m : ℕ). 256 / m) w) s.args.frame.now i)
     (upto (ap (λ (m : ℕ). 192 * m) (sym w)) c.before.before.lines.ensures)
 
-same-length-2 : tie.Need-same-length-2
-same-length-2 c = search rules
+shape_of-strip-else-bits : tie.Need-shape_of-strip-else-bits
+shape_of-strip-else-bits c = search rules
 
-returns-2 : tie.Need-returns-2
-returns-2 c =
+returns-else-bits : tie.Need-returns-else-bits
+returns-else-bits c =
     let t = c.before.before.before.before.before in
     let s = start_of t.before in
     let w = is_32 t in
-    by (λ i _ _. as_pairs s.args.look s.pre.0 2 (rw (t.before.before.gm.ensures, gm_low s.args.look) at c.before.before.before.before.if2.false) (ap (λ (m : ℕ). 256 / m) w) s.args.frame.now i)
-    (upto (ap (λ (m : ℕ). 192 * m) (sym w)) c.before.before.lines2.ensures)
+    by (λ i _ _. as_pairs s.args.look s.requires.0 2 (rw (t.before.before.gm.ensures, gm_low s.args.look) at c.before.before.before.before.if-bits.false) (ap (λ (m : ℕ). 256 / m) w) s.args.frame.now i)
+    (upto (ap (λ (m : ℕ). 192 * m) (sym w)) c.before.before.lines-else-bits.ensures)
 
-same-length-3 : tie.Need-same-length-3
-same-length-3 c = search rules
+shape_of-strip-then-bits-2 : tie.Need-shape_of-strip-then-bits-2
+shape_of-strip-then-bits-2 c = search rules
 
-returns-3 : tie.Need-returns-3
-returns-3 c =
+returns-then-bits-2 : tie.Need-returns-then-bits-2
+returns-then-bits-2 c =
     let t = c.before.before.before.before.before in
     let s = start_of t.before in
     let w = is-16 t in
-    by (λ i _ _. as_bits s.args.look s.pre.0 2 (rw (t.before.before.gm.ensures, gm_low s.args.look) at c.before.before.before.before.if3.true) (ap (λ (m : ℕ). 256 / m) w) s.args.frame.now i)
-    (upto (ap (λ (m : ℕ). 192 * m) (sym w)) c.before.before.lines3.ensures)
+    by (λ i _ _. as_bits s.args.look s.requires.0 2 (rw (t.before.before.gm.ensures, gm_low s.args.look) at c.before.before.before.before.if-bits-2.true) (ap (λ (m : ℕ). 256 / m) w) s.args.frame.now i)
+    (upto (ap (λ (m : ℕ). 192 * m) (sym w)) c.before.before.lines-then-bits-2.ensures)
 
-same-length-4 : tie.Need-same-length-4
-same-length-4 c = search rules
+shape_of-strip-else-bits-2 : tie.Need-shape_of-strip-else-bits-2
+shape_of-strip-else-bits-2 c = search rules
 
-returns-4 : tie.Need-returns-4
-returns-4 c =
+returns-else-bits-2 : tie.Need-returns-else-bits-2
+returns-else-bits-2 c =
     let t = c.before.before.before.before.before in
     let s = start_of t.before in
     let w = is-16 t in
-    by (λ i _ _. as_pairs s.args.look s.pre.0 4 (rw (t.before.before.gm.ensures, gm_low s.args.look) at c.before.before.before.before.if3.false) (ap (λ (m : ℕ). 256 / m) w) s.args.frame.now i)
-    (upto (ap (λ (m : ℕ). 192 * m) (sym w)) c.before.before.lines4.ensures)
+    by (λ i _ _. as_pairs s.args.look s.requires.0 4 (rw (t.before.before.gm.ensures, gm_low s.args.look) at c.before.before.before.before.if-bits-2.false) (ap (λ (m : ℕ). 256 / m) w) s.args.frame.now i)
+    (upto (ap (λ (m : ℕ). 192 * m) (sym w)) c.before.before.lines-else-bits-2.ensures)
 
-pub gather-spec : {M : Type 1} → statement M
-gather-spec =
+pub gather_spec : {M : Type 1} → statement M
+gather_spec =
     tie.close
     (tie.spec
     gm-requires
     width-requires
     lines-requires
-    lines-requires-2
-    lines-requires-3
-    lines-requires-4
-    same_length
-    returns
-    same-length-2
-    returns-2
-    same-length-3
-    returns-3
-    same-length-4
-    returns-4)
+    lines-requires-else-bits
+    lines-requires-then-bits-2
+    lines-requires-else-bits-2
+    shape_of-strip-then-bits
+    returns-then-bits
+    shape_of-strip-else-bits
+    returns-else-bits
+    shape_of-strip-then-bits-2
+    returns-then-bits-2
+    shape_of-strip-else-bits-2
+    returns-else-bits-2)

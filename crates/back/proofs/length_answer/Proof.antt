@@ -9,34 +9,34 @@ use borrow.Author.Rules.{rules}
 use Rattle.back.proofs.length_answer.Statement.{statement}
 use Rattle.back.proofs.length_answer.Tie as tie
 
-strip-length-requires : tie.Need-strip-length-requires
-strip-length-requires c κs = search rules
+strip_length-requires : tie.Need-strip_length-requires
+strip_length-requires c κs = search rules
 
-pins-above-requires : tie.Need-pins-above-requires
-pins-above-requires c κs = search rules
+pins_above-answer-requires : tie.Need-pins_above-answer-requires
+pins_above-answer-requires c κs = search rules
 
-text-back-requires : tie.Need-text-back-requires
-text-back-requires c κs = search rules
+text_back-answer-requires : tie.Need-text_back-answer-requires
+text_back-answer-requires c κs = search rules
 
-short-strip-requires : tie.Need-short-strip-requires
-short-strip-requires c κs = search rules
+short_strip-answer-requires : tie.Need-short_strip-answer-requires
+short_strip-answer-requires c κs = search rules
 
-short-frame-requires : tie.Need-short-frame-requires
-short-frame-requires c κs = search rules
+short_frame-requires : tie.Need-short_frame-requires
+short_frame-requires c κs = search rules
 
 returns : tie.Need-returns
 returns c =
     let a = c.before.before.before.before.before.args in
-    let e : told_of c.short-frame.result ≡ after_each (back_lengths a.look a.strip a.frame) (done (strip_length a.look)) = cc in
+    let e : told_of c.short_frame.result ≡ after_each (back_lengths a.look a.strip a.frame) (done (strip_length a.look)) = cc in
     e ∙ in_order (done (strip_length a.look)) refl (back_lengths a.look a.strip a.frame) tt
 
-pub length-answer-spec : {M : Type 1} → statement M
-length-answer-spec =
+pub length_answer_spec : {M : Type 1} → statement M
+length_answer_spec =
     tie.close
     (tie.spec
-    strip-length-requires
-    pins-above-requires
-    text-back-requires
-    short-strip-requires
-    short-frame-requires
+    strip_length-requires
+    pins_above-answer-requires
+    text_back-answer-requires
+    short_strip-answer-requires
+    short_frame-requires
     returns)

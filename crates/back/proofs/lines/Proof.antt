@@ -9,46 +9,46 @@ use Rattle.back.proofs.Shapes.{next_line}
 use Rattle.back.proofs.lines.Statement.{statement}
 use Rattle.back.proofs.lines.Tie as tie
 
-abbrev invariant-loop : tie.invariant-loop
+abbrev invariant-loop : tie.invariant-loop-n
 invariant-loop values count dots frame strip₀ n₀ strip n = (n ≤ 192) × Filled (λ (i : ℕ). read values count dots frame (i * (count * dots))) 0 (n * (256 / (count * dots))) strip₀ strip
 
-abbrev decreases-loop : tie.decreases-loop
+abbrev decreases-loop : tie.decreases-loop-n
 decreases-loop values count dots frame strip₀ n₀ strip n = 192 - n
 
-loop-holds : tie.Need-loop-init invariant-loop decreases-loop
-loop-holds c = (zero-le, upto (omega arith) (none _ _ _))
+loop-n-init : tie.Need-loop-n-init invariant-loop decreases-loop
+loop-n-init c = (zero-le, upto (omega arith) (none _ _ _))
 
 line-requires : tie.Need-line-requires invariant-loop decreases-loop
-line-requires c κs = let s = c.before.before.before.before.before in (s.requires.0, omega arith, s.requires.1, omega (arith, s.requires.2, c.before.before.loop.invariant.1.long))
+line-requires c κs = let s = c.before.before.before.before.before in (s.requires.0, omega arith, s.requires.1, omega (arith, s.requires.2, c.before.before.loop-n.invariant.1.long))
 
-add-n : tie.Need-overflow-add-n invariant-loop decreases-loop
-add-n c = omega arith
+overflow_add-n : tie.Need-overflow_add-n invariant-loop decreases-loop
+overflow_add-n c = omega arith
 
-loop-less : tie.Need-loop-smaller invariant-loop decreases-loop
-loop-less c = omega arith
+loop-n-smaller : tie.Need-loop-n-smaller invariant-loop decreases-loop
+loop-n-smaller c = omega arith
 
-loop-again : tie.Need-loop-preserved invariant-loop decreases-loop
-loop-again c = let l = c.before.before.before.before.before in (omega arith, upto (next_line l.before.before.before.requires.0 l.loop.n) (join zero-le (omega arith) l.loop.invariant.1 c.before.before.line.ensures))
+loop-n-preserved : tie.Need-loop-n-preserved invariant-loop decreases-loop
+loop-n-preserved c = let l = c.before.before.before.before.before in (omega arith, upto (next_line l.before.before.before.requires.0 l.loop-n.n) (join zero-le (omega arith) l.loop-n.invariant.1 c.before.before.line.ensures))
 
-same_length : tie.Need-same-length invariant-loop decreases-loop
-same_length c = c.before.loop.invariant.1.long
+shape_of-strip : tie.Need-shape_of-strip invariant-loop decreases-loop
+shape_of-strip c = c.before.loop-n.invariant.1.long
 
 returns : tie.Need-returns invariant-loop decreases-loop
 returns c =
     let s = c.before.before.before.before in
-    let e : c.before.loop.n ≡ 192 = omega arith in
-    upto (ap (λ (m : ℕ). m * (256 / (s.args.count * s.args.dots))) e) c.before.loop.invariant.1
+    let e : c.before.loop-n.n ≡ 192 = omega arith in
+    upto (ap (λ (m : ℕ). m * (256 / (s.args.count * s.args.dots))) e) c.before.loop-n.invariant.1
 
-pub lines-spec : {M : Type 1} → statement M
-lines-spec =
+pub lines_spec : {M : Type 1} → statement M
+lines_spec =
     tie.close
     (tie.spec
     invariant-loop
     decreases-loop
-    loop-holds
+    loop-n-init
     line-requires
-    add-n
-    loop-less
-    loop-again
-    same_length
+    overflow_add-n
+    loop-n-smaller
+    loop-n-preserved
+    shape_of-strip
     returns)

@@ -10,30 +10,30 @@ use Rattle.back.proofs.read_back.Tie as tie
 abbrev start_of : tie.After-number → tie.Start
 start_of c = c.before.before.before.before
 
-passed : (c : tie.Else1) → (told_of c.before.before.length-answer.result).number ≡ 0
-passed c = sym c.before.number.ensures ∙ c.if1.false
+passed : (c : tie.Else-number-ne0) → (told_of c.before.before.length_answer-answer.result).number ≡ 0
+passed c = sym c.before.number.ensures ∙ c.if-number-ne0.false
 
-length-answer-requires : tie.Need-length-answer-requires
-length-answer-requires c κs = search rules
+length_answer-answer-requires : tie.Need-length_answer-answer-requires
+length_answer-answer-requires c κs = search rules
 
 number-requires : tie.Need-number-requires
 number-requires c κs = search rules
 
-returns : tie.Need-returns
-returns c =
+returns-then-number-ne0 : tie.Need-returns-then-number-ne0
+returns-then-number-ne0 c =
     let b = start_of c.before in
-    length_refused b.args.look b.args.frame.now b.args.strip.now c.before.before.length-answer.ensures (λ z. c.if1.true (c.before.number.ensures ∙ z))
+    length_refused b.args.look b.args.frame.now b.args.strip.now c.before.before.length_answer-answer.ensures (λ z. c.if-number-ne0.true (c.before.number.ensures ∙ z))
 
 take-requires : tie.Need-take-requires
-take-requires c κs = rw c.before.before.before.length-answer.ensures at (passed c.before)
+take-requires c κs = rw c.before.before.before.length_answer-answer.ensures at (passed c.before)
 
-same_length : tie.Need-same-length
-same_length c = search rules
+shape_of-strip : tie.Need-shape_of-strip
+shape_of-strip c = search rules
 
-returns-2 : tie.Need-returns-2
+returns-2 : tie.Need-returns
 returns-2 c = search rules
 
-pub read-back-spec : {M : Type 1} → statement M
-read-back-spec =
+pub read_back_spec : {M : Type 1} → statement M
+read_back_spec =
     tie.close
-    (tie.spec length-answer-requires number-requires returns take-requires same_length returns-2)
+    (tie.spec length_answer-answer-requires number-requires returns-then-number-ne0 take-requires shape_of-strip returns-2)

@@ -10,47 +10,47 @@ use Rattle.back.specs.Stray.{stray, first_stray}
 use Rattle.back.proofs.search.Statement.{statement}
 use Rattle.back.proofs.search.Tie as tie
 
-abbrev invariant-loop : tie.invariant-loop
+abbrev invariant-loop : tie.invariant-loop-k
 invariant-loop look frame k₀ k = (k ≤ frame_length) × ((j : ℕ) → j < k → stray look frame j ≡ false)
 
-abbrev decreases-loop : tie.decreases-loop
+abbrev decreases-loop : tie.decreases-loop-k
 decreases-loop look frame k₀ k = frame_length - k
 
-loop-holds : tie.Need-loop-init invariant-loop decreases-loop
-loop-holds c = (omega arith, below_none _)
+loop-k-init : tie.Need-loop-k-init invariant-loop decreases-loop
+loop-k-init c = (omega arith, below_none _)
 
-stray-at-requires : tie.Need-stray-at-requires invariant-loop decreases-loop
-stray-at-requires c κs = (c.before.before.before.requires.0, omega arith)
+stray_at-requires : tie.Need-stray_at-requires invariant-loop decreases-loop
+stray_at-requires c κs = (c.before.before.before.requires.0, omega arith)
 
-returns : tie.Need-returns invariant-loop decreases-loop
+returns-then-stray_at : tie.Need-returns-then-stray_at invariant-loop decreases-loop
 unfolding first_stray
-returns c = sym (first_at _ _ _ c.before.before.before.loop.invariant.1 (sym c.before.stray-at.ensures ∙ c.if1.true) (omega arith))
+returns-then-stray_at c = sym (first_at _ _ _ c.before.before.before.loop-k.invariant.1 (sym c.before.stray_at.ensures ∙ c.if-stray_at.true) (omega arith))
 
-add-k : tie.Need-overflow-add-k invariant-loop decreases-loop
-add-k c = omega arith
+overflow_add-k : tie.Need-overflow_add-k invariant-loop decreases-loop
+overflow_add-k c = omega arith
 
-loop-less : tie.Need-loop-smaller invariant-loop decreases-loop
-loop-less c = omega arith
+loop-k-smaller : tie.Need-loop-k-smaller invariant-loop decreases-loop
+loop-k-smaller c = omega arith
 
-loop-again : tie.Need-loop-preserved invariant-loop decreases-loop
-loop-again c = (omega arith, below_more _ _ c.before.before.before.loop.invariant.1 (sym c.before.stray-at.ensures ∙ c.if1.false))
+loop-k-preserved : tie.Need-loop-k-preserved invariant-loop decreases-loop
+loop-k-preserved c = (omega arith, below_more _ _ c.before.before.before.loop-k.invariant.1 (sym c.before.stray_at.ensures ∙ c.if-stray_at.false))
 
-returns-2 : tie.Need-returns-2 invariant-loop decreases-loop
+returns-2 : tie.Need-returns invariant-loop decreases-loop
 unfolding first_stray
 returns-2 c =
-    let e : c.before.loop.k ≡ frame_length = omega arith in
-    e ∙ sym (first_none _ frame_length (λ j l. c.before.loop.invariant.1 j (omega arith)))
+    let e : c.before.loop-k.k ≡ frame_length = omega arith in
+    e ∙ sym (first_none _ frame_length (λ j l. c.before.loop-k.invariant.1 j (omega arith)))
 
-pub search-spec : {M : Type 1} → statement M
-search-spec =
+pub search_spec : {M : Type 1} → statement M
+search_spec =
     tie.close
     (tie.spec
     invariant-loop
     decreases-loop
-    loop-holds
-    stray-at-requires
-    returns
-    add-k
-    loop-less
-    loop-again
+    loop-k-init
+    stray_at-requires
+    returns-then-stray_at
+    overflow_add-k
+    loop-k-smaller
+    loop-k-preserved
     returns-2)

@@ -6,22 +6,22 @@ use Rattle.back.specs.Stray.{shows}
 use Rattle.back.proofs.shows.Statement.{statement}
 use Rattle.back.proofs.shows.Tie as tie
 
-css-requires : tie.Need-css-requires
-css-requires c κs = search rules
+css-css-requires : tie.Need-css-css-requires
+css-css-requires c κs = search rules
 
 gm-requires : tie.Need-gm-requires
 gm-requires c κs = search rules
 
-mul-result : tie.Need-overflow-mul-result
-mul-result c = search rules
+overflow_mul-result : tie.Need-overflow_mul-result
+overflow_mul-result c = search rules
 
-returns : tie.Need-returns
+returns-then-gm-eq1 : tie.Need-returns-then-gm-eq1
 unfolding shows
-returns c = simp (eq-eqb _ _ (rw (c.before.gm.ensures, gm_low _) at c.if1.true), c.before.before.css.ensures)
+returns-then-gm-eq1 c = simp (eq-eqb _ _ (rw (c.before.gm.ensures, gm_low _) at c.if-gm-eq1.true), c.before.before.css-css.ensures)
 
-returns-2 : tie.Need-returns-2
+returns-2 : tie.Need-returns
 unfolding shows
-returns-2 c = simp (ne_eqb _ _ (rw (c.before.gm.ensures, gm_low _) at c.if1.false), c.before.before.css.ensures)
+returns-2 c = simp (ne_eqb _ _ (rw (c.before.gm.ensures, gm_low _) at c.if-gm-eq1.false), c.before.before.css-css.ensures)
 
-pub shows-spec : {M : Type 1} → statement M
-shows-spec = tie.close (tie.spec css-requires gm-requires mul-result returns returns-2)
+pub shows_spec : {M : Type 1} → statement M
+shows_spec = tie.close (tie.spec css-css-requires gm-requires overflow_mul-result returns-then-gm-eq1 returns-2)

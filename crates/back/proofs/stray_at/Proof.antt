@@ -7,20 +7,20 @@ use Rattle.back.proofs.RoundTrip.{left_of}
 use Rattle.back.proofs.stray_at.Statement.{statement}
 use Rattle.back.proofs.stray_at.Tie as tie
 
-shared-slice-read-c : tie.Need-shared-slice-read-c
-shared-slice-read-c c = search rules
+bounds-frame-k : tie.Need-bounds-frame-k
+bounds-frame-k c = search rules
 
 dots-requires : tie.Need-dots-requires
 dots-requires c κs = search rules
 
-rem-left : tie.Need-nonzero-rem-left
-rem-left c = rw c.dots.ensures (dots_pos c.before.before.before.args.look c.before.before.before.requires.0)
+nonzero_rem-left : tie.Need-nonzero_rem-left
+nonzero_rem-left c = rw c.dots.ensures (dots_pos c.before.before.before.args.look c.before.before.before.requires.0)
 
-sub-left : tie.Need-overflow-sub-left
-sub-left c = mod-le _ _
+overflow_sub-left : tie.Need-overflow_sub-left
+overflow_sub-left c = mod-le _ _
 
-shared-slice-read-left : tie.Need-shared-slice-read-left
-shared-slice-read-left c = search rules
+bounds-frame-k-2 : tie.Need-bounds-frame-k-2
+bounds-frame-k-2 c = search rules
 
 shows-requires : tie.Need-shows-requires
 shows-requires c κs = search rules
@@ -31,14 +31,14 @@ returns c =
     let s = c.before.before.before.before.before in
     simp (c.shows.ensures, c.before.before.dots.ensures, (left_of s.args.look s.requires.0 s.args.k).0)
 
-pub stray-at-spec : {M : Type 1} → statement M
-stray-at-spec =
+pub stray_at_spec : {M : Type 1} → statement M
+stray_at_spec =
     tie.close
     (tie.spec
-    shared-slice-read-c
+    bounds-frame-k
     dots-requires
-    rem-left
-    sub-left
-    shared-slice-read-left
+    nonzero_rem-left
+    overflow_sub-left
+    bounds-frame-k-2
     shows-requires
     returns)

@@ -15,10 +15,10 @@ use Rattle.back.proofs.take.Statement.{statement}
 use Rattle.back.proofs.take.Tie as tie
 
 -- where the function starts, from the place after the bytes are read, and that all fits there
-abbrev gather-of : tie.After-bytes3 → tie.After-gather
+abbrev gather-of : tie.After-bytes-3-1 → tie.After-gather
 gather-of c = c.before.before
 
-abbrev start_of : tie.After-bytes3 → tie.Start
+abbrev start_of : tie.After-bytes-3-1 → tie.Start
 start_of c = (gather-of c).before.before.before.before
 
 fits : (s : tie.Start) → BackFits s.args.look (length s.args.strip.now) (length s.args.frame.now)
@@ -28,62 +28,62 @@ fits s = lengths_fit s.args.look (length s.args.strip.now) (length s.args.frame.
 gathered-long : (c : tie.After-gather) → strip_length c.before.before.before.before.args.look ≤ length c.gather.new.1.1.0
 gathered-long c = omega (arith, c.gather.ensures.long, length-replicate {A = ℕ} 6144 0, width_le c.before.before.before.before.args.look)
 
-slice-aggregate-gather : tie.Need-slice-aggregate-gather
-slice-aggregate-gather c = search rules
+slice_bounds-gather-end : tie.Need-slice_bounds-gather-end
+slice_bounds-gather-end c = search rules
 
 gather-requires : tie.Need-gather-requires
 gather-requires c κs = let f = fits c.before.before.before in (f.in_graphics, f.frame_long, omega (arith, width_le c.before.before.before.args.look))
 
-slice-aggregate-first-stray : tie.Need-slice-aggregate-first-stray
-slice-aggregate-first-stray c = search rules
+slice_bounds-first_stray-end : tie.Need-slice_bounds-first_stray-end
+slice_bounds-first_stray-end c = search rules
 
-first-stray-requires : tie.Need-first-stray-requires
-first-stray-requires c κs =
+first_stray-k-requires : tie.Need-first_stray-k-requires
+first_stray-k-requires c κs =
     let f = fits (start_of c) in
     (f.pins_low, f.in_graphics, omega (arith, gathered-long (gather-of c)), f.frame_long)
 
-returns : tie.Need-returns
-returns c =
+returns-then-k-lt-FRAME_LENGTH : tie.Need-returns-then-k-lt-FRAME_LENGTH
+returns-then-k-lt-FRAME_LENGTH c =
     let s = start_of c.before.before in
-    let f = c.before.first-stray.ensures in
-    let k = told_stray s.args.look s.args.frame.now s.args.strip.now s.pre (rw f at c.if1.true) in
+    let f = c.before.first_stray-k.ensures in
+    let k = told_stray s.args.look s.args.frame.now s.args.strip.now s.requires (rw f at c.if-k-lt-FRAME_LENGTH.true) in
     (ap (λ (p : ℕ). told 9 p 0) f ∙ k.0, k.1)
 
-strip-length-requires : tie.Need-strip-length-requires
-strip-length-requires c κs = search rules
+strip_length-length-requires : tie.Need-strip_length-length-requires
+strip_length-length-requires c κs = search rules
 
-slice-aggregate-store : tie.Need-slice-aggregate-store
-slice-aggregate-store c = search rules
+slice_bounds-store-end : tie.Need-slice_bounds-store-end
+slice_bounds-store-end c = search rules
 
 store-requires : tie.Need-store-requires
 store-requires c κs = search rules
 
-same_length : tie.Need-same-length
-same_length c = search rules
+shape_of-strip : tie.Need-shape_of-strip
+shape_of-strip c = search rules
 
-returns-2 : tie.Need-returns-2
+returns-2 : tie.Need-returns
 returns-2 c =
     let d = c.before.before.before.before.before in
     let g = d.before.before.before in
     let s = start_of g in
     let l = s.args.look in
-    let n = d.strip-length.ensures in
-    let f = d.before.before.first-stray.ensures in
+    let n = d.strip_length-length.ensures in
+    let f = d.before.before.first_stray-k.ensures in
     let kept = stored (read_byte l s.args.frame.now) (strip_length l) (gather-of g).gather.new.1.1.0 s.args.strip.now n (gathered-long (gather-of g)) (fits s).strip_long (λ k h. (gather-of g).gather.ensures.is k zero-le h) c.before.before.store.ensures in
-    let k = told_clean l s.args.frame.now s.args.strip.now s.pre (rw f at d.before.if1.false) kept in
+    let k = told_clean l s.args.frame.now s.args.strip.now s.requires (rw f at d.before.if-k-lt-FRAME_LENGTH.false) kept in
     (ap done n ∙ k.0, k.1)
 
 pub take_spec : {M : Type 1} → statement M
 take_spec =
     tie.close
     (tie.spec
-    slice-aggregate-gather
+    slice_bounds-gather-end
     gather-requires
-    slice-aggregate-first-stray
-    first-stray-requires
-    returns
-    strip-length-requires
-    slice-aggregate-store
+    slice_bounds-first_stray-end
+    first_stray-k-requires
+    returns-then-k-lt-FRAME_LENGTH
+    strip_length-length-requires
+    slice_bounds-store-end
     store-requires
-    same_length
+    shape_of-strip
     returns-2)

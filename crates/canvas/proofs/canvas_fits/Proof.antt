@@ -7,18 +7,18 @@ use Rattle.plans.proofs.Refusals.{too_wide, too_high}
 use Rattle.canvas.proofs.canvas_fits.Statement.{statement}
 use Rattle.canvas.proofs.canvas_fits.Tie as tie
 
-returns : tie.Need-returns
-returns c = too_wide _ _ _ c.if1.true
+returns-then-width-gt65536 : tie.Need-returns-then-width-gt65536
+returns-then-width-gt65536 c = too_wide _ _ _ c.if-width-gt65536.true
 
-returns-2 : tie.Need-returns-2
-returns-2 c = too_high _ _ _ c.if2.true
+returns-then-height-gt65536 : tie.Need-returns-then-height-gt65536
+returns-then-height-gt65536 c = too_high _ _ _ c.if-height-gt65536.true
 
-mul-result : tie.Need-overflow-mul-result
-mul-result c = record { fits = omega (arith, mul-le-mul_right c.before.before.args.height c.before.if1.false, c.if2.false) }
+overflow_mul-result : tie.Need-overflow_mul-result
+overflow_mul-result c = record { fits = omega (arith, mul-le-mul_right c.before.before.args.height c.before.if-width-gt65536.false, c.if-height-gt65536.false) }
 
-returns-3 : tie.Need-returns-3
+returns-3 : tie.Need-returns
 unfolding canvas_fits
 returns-3 c = refl
 
-pub canvas-fits-spec : {M : Type 1} → statement M
-canvas-fits-spec = tie.close (tie.spec returns returns-2 mul-result returns-3)
+pub canvas_fits_spec : {M : Type 1} → statement M
+canvas_fits_spec = tie.close (tie.spec returns-then-width-gt65536 returns-then-height-gt65536 overflow_mul-result returns-3)

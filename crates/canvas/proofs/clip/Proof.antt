@@ -7,21 +7,21 @@ use Rattle.canvas.proofs.Rectangles.{side_is}
 use Rattle.canvas.proofs.clip.Statement.{statement}
 use Rattle.canvas.proofs.clip.Tie as tie
 
-off-requires : tie.Need-off-requires
-off-requires c κs = search rules
+off-before-requires : tie.Need-off-before-requires
+off-before-requires c κs = search rules
 
-start-requires : tie.Need-start-requires
-start-requires c κs = search rules
+start-first-requires : tie.Need-start-first-requires
+start-first-requires c κs = search rules
 
-kept-requires : tie.Need-kept-requires
-kept-requires c κs = search rules
+kept-rest-requires : tie.Need-kept-rest-requires
+kept-rest-requires c κs = search rules
 
 -- what is passed on is read back from its bits
 returns : tie.Need-returns
 returns c =
     let a = c.before.before.before in
     let z-is = here a.args.z a.ranges.z in
-    side_is a.args.z a.args.n a.args.edge (c.before.before.off.ensures ∙ ap off_of z-is) (c.before.start.ensures ∙ ap start_of z-is) c.kept.ensures
+    side_is a.args.z a.args.n a.args.edge (c.before.before.off-before.ensures ∙ ap off_of z-is) (c.before.start-first.ensures ∙ ap start_of z-is) c.kept-rest.ensures
 
-pub clip-spec : {M : Type 1} → statement M
-clip-spec = tie.close (tie.spec off-requires start-requires kept-requires returns)
+pub clip_spec : {M : Type 1} → statement M
+clip_spec = tie.close (tie.spec off-before-requires start-first-requires kept-rest-requires returns)

@@ -8,20 +8,20 @@ use Rattle.plans.specs.Canvas.{lay_order, order_told}
 use Rattle.canvas.proofs.lay_answer.Statement.{statement}
 use Rattle.canvas.proofs.lay_answer.Tie as tie
 
-short-frame-requires : tie.Need-short-frame-requires
-short-frame-requires c κs = search rules
+short_frame-answer-requires : tie.Need-short_frame-answer-requires
+short_frame-answer-requires c κs = search rules
 
-canvas-fits-requires : tie.Need-canvas-fits-requires
-canvas-fits-requires c κs = search rules
+canvas_fits-requires : tie.Need-canvas_fits-requires
+canvas_fits-requires c κs = search rules
 
-check-requires : tie.Need-check-requires
-check-requires c κs = search rules
+check-answer-requires : tie.Need-check-answer-requires
+check-answer-requires c κs = search rules
 
-check-requires-2 : tie.Need-check-requires-2
-check-requires-2 c κs = search rules
+check-answer-requires-2 : tie.Need-check-answer-requires-2
+check-answer-requires-2 c κs = search rules
 
-check-requires-3 : tie.Need-check-requires-3
-check-requires-3 c κs = search rules
+check-answer-requires-3 : tie.Need-check-answer-requires-3
+check-answer-requires-3 c κs = search rules
 
 returns : tie.Need-returns
 unfolding order_told
@@ -32,9 +32,9 @@ returns c =
     let short = tested.before in
     let a = short.before.args in
     let order = lay_order a.frame a.width a.height a.room a.count a.first in
-    let e : told_of c.check3.result ≡ after_each order (done 0) =
-    next _ c.check3.ensures (next _ many.check2.ensures (next _ (rw tested.canvas-fits.ensures at sized.check.ensures) short.short-frame.ensures)) in
+    let e : told_of c.check-answer-3.result ≡ after_each order (done 0) =
+    next _ c.check-answer-3.ensures (next _ many.check-answer-2.ensures (next _ (rw tested.canvas_fits.ensures at sized.check-answer.ensures) short.short_frame-answer.ensures)) in
     e ∙ in_order (done 0) refl order tt
 
-pub lay-answer-spec : {M : Type 1} → statement M
-lay-answer-spec = tie.close (tie.spec short-frame-requires canvas-fits-requires check-requires check-requires-2 check-requires-3 returns)
+pub lay_answer_spec : {M : Type 1} → statement M
+lay_answer_spec = tie.close (tie.spec short_frame-answer-requires canvas_fits-requires check-answer-requires check-answer-requires-2 check-answer-requires-3 returns)

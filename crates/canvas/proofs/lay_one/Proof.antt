@@ -10,87 +10,87 @@ use Rattle.canvas.proofs.Rectangles as law
 use Rattle.canvas.proofs.lay_one.Statement.{statement}
 use Rattle.canvas.proofs.lay_one.Tie as tie
 
-clip-requires : tie.Need-clip-requires
-clip-requires c κs = search rules
+clip-h-requires : tie.Need-clip-h-requires
+clip-h-requires c κs = search rules
 
-clip-requires-2 : tie.Need-clip-requires-2
-clip-requires-2 c κs = search rules
+clip-v-requires : tie.Need-clip-v-requires
+clip-v-requires c κs = search rules
 
 -- where the call begins, seen from where both sides are measured
-abbrev start : tie.After-clip2 → tie.Start
+abbrev start : tie.After-clip-v → tie.Start
 start c = c.before.before.before.before.before.before
 
 -- the struct tells that the corner fits its 16 bits, so that it is read back from them as it is
-measured : (c : tie.After-clip2) → law.Measured (start c).args.frame.now (start c).args.p (start c).args.width (start c).args.height (start c).args.canvas.now c.before.before.clip.result c.clip2.result
+measured : (c : tie.After-clip-v) → law.Measured (start c).args.frame.now (start c).args.p (start c).args.width (start c).args.height (start c).args.canvas.now c.before.before.clip-h.result c.clip-v.result
 measured c =
     let a = (start c).args in
-    let fits = c.before.before.before.struct_told.given in
+    let fits = c.before.before.before.struct_told-1.given in
     record {
       ready = (start c).requires;
-      h_is = c.before.before.clip.ensures ∙ ap (λ (z : ℤ). side_of z a.p.across a.width) (to_z-of_z w16 a.p.x (record { sfits = fits.1.1.1.1.0.1 }));
-      v_is = c.clip2.ensures ∙ ap (λ (z : ℤ). side_of z a.p.down a.height) (to_z-of_z w16 a.p.y (record { sfits = fits.1.1.1.1.1.0.1 }));
+      h_is = c.before.before.clip-h.ensures ∙ ap (λ (z : ℤ). side_of z a.p.across a.width) (to_z-of_z w16 a.p.x (record { sfits = fits.1.1.1.1.0.1 }));
+      v_is = c.clip-v.ensures ∙ ap (λ (z : ℤ). side_of z a.p.down a.height) (to_z-of_z w16 a.p.y (record { sfits = fits.1.1.1.1.1.0.1 }));
     }
 
-mul-on : tie.Need-overflow-mul-on
-mul-on c = record { fits = omega (arith, law.on_fits (measured c.before.before)) }
+overflow_mul-on : tie.Need-overflow_mul-on
+overflow_mul-on c = record { fits = omega (arith, law.on_fits (measured c.before.before)) }
 
 counted-requires : tie.Need-counted-requires
 counted-requires c κs = law.none_counted (measured c.before.before.before)
 
-returns : tie.Need-returns
-returns c =
+returns-then-on-eq0 : tie.Need-returns-then-on-eq0
+returns-then-on-eq0 c =
     let m = measured c.before.before.before.before in
-    (c.counted.ensures ∙ law.entry_none m c.before.if1.true, law.pixels_none m c.before.if1.true)
+    (c.counted.ensures ∙ law.entry_none m c.before.if-on-eq0.true, law.pixels_none m c.before.if-on-eq0.true)
 
 -- where something is kept: how near the rectangle's first kept pixel lies
-abbrev both : tie.Else1 → tie.After-clip2
+abbrev both : tie.Else-on-eq0 → tie.After-clip-v
 both c = c.before.before.before
 
-add-from : tie.Need-overflow-add-from
-add-from c = let e = c.before.before in record { fits = omega (arith, law.near (measured (both e)) e.if1.false) }
+overflow_add-from : tie.Need-overflow_add-from
+overflow_add-from c = let e = c.before.before in record { fits = omega (arith, law.near (measured (both e)) e.if-on-eq0.false) }
 
-mul-from : tie.Need-overflow-mul-from
-mul-from c = let e = c.before.before in record { fits = omega (arith, law.near (measured (both e)) e.if1.false) }
+overflow_mul-from : tie.Need-overflow_mul-from
+overflow_mul-from c = let e = c.before.before in record { fits = omega (arith, law.near (measured (both e)) e.if-on-eq0.false) }
 
-add-from-2 : tie.Need-overflow-add-from-2
-add-from-2 c = let e = c.before.before.before.before in record { fits = omega (arith, law.near (measured (both e)) e.if1.false) }
+overflow_add-from-2 : tie.Need-overflow_add-from-2
+overflow_add-from-2 c = let e = c.before.before.before.before in record { fits = omega (arith, law.near (measured (both e)) e.if-on-eq0.false) }
 
-add-from-3 : tie.Need-overflow-add-from-3
-add-from-3 c = let e = c.before.before.before.before in record { fits = omega (arith, law.near (measured (both e)) e.if1.false) }
+overflow_add-from-3 : tie.Need-overflow_add-from-3
+overflow_add-from-3 c = let e = c.before.before.before.before in record { fits = omega (arith, law.near (measured (both e)) e.if-on-eq0.false) }
 
 rows-requires : tie.Need-rows-requires
-rows-requires c κs = let e = c.before.before.before.before.before in law.asked (measured (both e)) e.if1.false
+rows-requires c κs = let e = c.before.before.before.before.before in law.asked (measured (both e)) e.if-on-eq0.false
 
 -- and seen from where the rows are copied
-abbrev copied : tie.After-rows → tie.Else1
+abbrev copied : tie.After-rows → tie.Else-on-eq0
 copied c = c.before.before.before.before.before.before
 
 counted-requires-2 : tie.Need-counted-requires-2
 counted-requires-2 c κs = law.all_counted (measured (both (copied c.before.before)))
 
-same_length : tie.Need-same-length
-same_length c = search rules
+shape_of-canvas : tie.Need-shape_of-canvas
+shape_of-canvas c = search rules
 
-returns-2 : tie.Need-returns-2
+returns-2 : tie.Need-returns
 returns-2 c =
     let r = c.before.before.before in
     let m = measured (both (copied r)) in
-    (c.counted2.ensures ∙ law.entry m, law.pixels m r.rows.ensures)
+    (c.counted-2.ensures ∙ law.entry m, law.pixels m r.rows.ensures)
 
-pub lay-one-spec : {M : Type 1} → statement M
-lay-one-spec =
+pub lay_one_spec : {M : Type 1} → statement M
+lay_one_spec =
     tie.close
     (tie.spec
-    clip-requires
-    clip-requires-2
-    mul-on
+    clip-h-requires
+    clip-v-requires
+    overflow_mul-on
     counted-requires
-    returns
-    add-from
-    mul-from
-    add-from-2
-    add-from-3
+    returns-then-on-eq0
+    overflow_add-from
+    overflow_mul-from
+    overflow_add-from-2
+    overflow_add-from-3
     rows-requires
     counted-requires-2
-    same_length
+    shape_of-canvas
     returns-2)

@@ -9,10 +9,10 @@ use Rattle.canvas.proofs.Patches.{begun, row_more}
 use Rattle.canvas.proofs.rows.Statement.{statement}
 use Rattle.canvas.proofs.rows.Tie as tie
 
-abbrev invariant-loop : tie.invariant-loop
+abbrev invariant-loop : tie.invariant-loop-i
 invariant-loop frame from columns lines canvas₀ width column line i₀ canvas i = (i ≤ lines) × Patched frame from width column line columns i canvas₀ canvas
 
-abbrev decreases-loop : tie.decreases-loop
+abbrev decreases-loop : tie.decreases-loop-i
 decreases-loop frame from columns lines canvas₀ width column line i₀ canvas i = lines - i
 
 -- the row of this turn ends on the canvas
@@ -22,69 +22,69 @@ ends line i lines width column n room h l r =
     omega (arith, mul-le-mul_right width k, add-mul (line + i) 1 width)
 
 -- where the call begins, seen from where a turn begins
-abbrev start : tie.At-loop invariant-loop decreases-loop → tie.Start invariant-loop decreases-loop
+abbrev start : tie.At-loop-i invariant-loop decreases-loop → tie.Start invariant-loop decreases-loop
 start c = c.before.before.before
 
-here : (c : tie.In-loop invariant-loop decreases-loop)
-    → ((start c.before).args.line + c.before.loop.i) * (start c.before).args.width + (start c.before).args.column + (start c.before).args.columns ≤ length (start c.before).args.canvas.now
-here c = let a = start c.before in ends a.args.line c.before.loop.i a.args.lines a.args.width a.args.column a.args.columns _ c.loop-test.true a.pre.0.3 a.pre.1.1
+here : (c : tie.In-loop-i invariant-loop decreases-loop)
+    → ((start c.before).args.line + c.before.loop-i.i) * (start c.before).args.width + (start c.before).args.column + (start c.before).args.columns ≤ length (start c.before).args.canvas.now
+here c = let a = start c.before in ends a.args.line c.before.loop-i.i a.args.lines a.args.width a.args.column a.args.columns _ c.loop-i-test.true a.requires.0.3 a.requires.1.1
 
-loop-holds : tie.Need-loop-init invariant-loop decreases-loop
-loop-holds c = (omega arith, begun _ _ _ _ _ _ _)
+loop-i-init : tie.Need-loop-i-init invariant-loop decreases-loop
+loop-i-init c = (omega arith, begun _ _ _ _ _ _ _)
 
-mul-row : tie.Need-overflow-mul-row invariant-loop decreases-loop
-mul-row c = omega arith
+overflow_mul-i : tie.Need-overflow_mul-i invariant-loop decreases-loop
+overflow_mul-i c = omega arith
 
-add_row : tie.Need-overflow-add-row invariant-loop decreases-loop
-add_row c = omega arith
+overflow_add-from : tie.Need-overflow_add-from invariant-loop decreases-loop
+overflow_add-from c = omega arith
 
-add-row-2 : tie.Need-overflow-add-row-2 invariant-loop decreases-loop
-add-row-2 c = omega arith
+overflow_add-line : tie.Need-overflow_add-line invariant-loop decreases-loop
+overflow_add-line c = omega arith
 
-mul-row-2 : tie.Need-overflow-mul-row-2 invariant-loop decreases-loop
-mul-row-2 c = omega (arith, here c.before)
+overflow_mul-line : tie.Need-overflow_mul-line invariant-loop decreases-loop
+overflow_mul-line c = omega (arith, here c.before)
 
-add-row-3 : tie.Need-overflow-add-row-3 invariant-loop decreases-loop
-add-row-3 c = omega (arith, here c.before)
+overflow_add-line-in-loop-i : tie.Need-overflow_add-line-in-loop-i invariant-loop decreases-loop
+overflow_add-line-in-loop-i c = omega (arith, here c.before)
 
 row-requires : tie.Need-row-requires invariant-loop decreases-loop
-row-requires c κs = let t = c.before.before in (omega (arith, (start t).requires.1.0), omega (arith, here c.before, t.loop.invariant.1.long))
+row-requires c κs = let t = c.before.before in (omega (arith, (start t).requires.1.0), omega (arith, here c.before, t.loop-i.invariant.1.long))
 
-add-i : tie.Need-overflow-add-i invariant-loop decreases-loop
-add-i c = omega arith
+overflow_add-i : tie.Need-overflow_add-i invariant-loop decreases-loop
+overflow_add-i c = omega arith
 
-loop-less : tie.Need-loop-smaller invariant-loop decreases-loop
-loop-less c = omega arith
+loop-i-smaller : tie.Need-loop-i-smaller invariant-loop decreases-loop
+loop-i-smaller c = omega arith
 
-loop-again : tie.Need-loop-preserved invariant-loop decreases-loop
-loop-again c =
+loop-i-preserved : tie.Need-loop-i-preserved invariant-loop decreases-loop
+loop-i-preserved c =
     let t = c.before.before.before.before.before in
-    (omega arith, row_more _ _ _ _ _ _ t.loop.i (omega arith) (start t).requires.0.3 t.loop.invariant.1 c.before.before.row.ensures)
+    (omega arith, row_more _ _ _ _ _ _ t.loop-i.i (omega arith) (start t).requires.0.3 t.loop-i.invariant.1 c.before.before.row.ensures)
 
-same_length : tie.Need-same-length invariant-loop decreases-loop
-same_length c = c.before.loop.invariant.1.long
+shape_of-canvas : tie.Need-shape_of-canvas invariant-loop decreases-loop
+shape_of-canvas c = c.before.loop-i.invariant.1.long
 
 returns : tie.Need-returns invariant-loop decreases-loop
 returns c =
     let t = c.before in
-    let all : t.loop.i ≡ (start t).args.lines = omega arith in
-    rw all at t.loop.invariant.1
+    let all : t.loop-i.i ≡ (start t).args.lines = omega arith in
+    rw all at t.loop-i.invariant.1
 
-pub rows-spec : {M : Type 1} → statement M
-rows-spec =
+pub rows_spec : {M : Type 1} → statement M
+rows_spec =
     tie.close
     (tie.spec
     invariant-loop
     decreases-loop
-    loop-holds
-    mul-row
-    add_row
-    add-row-2
-    mul-row-2
-    add-row-3
+    loop-i-init
+    overflow_mul-i
+    overflow_add-from
+    overflow_add-line
+    overflow_mul-line
+    overflow_add-line-in-loop-i
     row-requires
-    add-i
-    loop-less
-    loop-again
-    same_length
+    overflow_add-i
+    loop-i-smaller
+    loop-i-preserved
+    shape_of-canvas
     returns)

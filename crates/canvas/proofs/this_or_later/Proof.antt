@@ -3,14 +3,14 @@ use borrow.Author.Rules.{rules}
 use Rattle.canvas.proofs.this_or_later.Statement.{statement}
 use Rattle.canvas.proofs.this_or_later.Tie as tie
 
-is-outside-requires : tie.Need-is-outside-requires
-is-outside-requires c κs = search rules
+is_outside-requires : tie.Need-is_outside-requires
+is_outside-requires c κs = search rules
 
-returns : tie.Need-returns
-returns c = simp (rw c.before.is-outside.ensures at c.if1.true)
+returns-then-is_outside : tie.Need-returns-then-is_outside
+returns-then-is_outside c = simp (rw c.before.is_outside.ensures at c.if-is_outside.true)
 
-returns-2 : tie.Need-returns-2
-returns-2 c = simp (rw c.before.is-outside.ensures at c.if1.false)
+returns-2 : tie.Need-returns
+returns-2 c = simp (rw c.before.is_outside.ensures at c.if-is_outside.false)
 
-pub this-or-later-spec : {M : Type 1} → statement M
-this-or-later-spec = tie.close (tie.spec is-outside-requires returns returns-2)
+pub this_or_later_spec : {M : Type 1} → statement M
+this_or_later_spec = tie.close (tie.spec is_outside-requires returns-then-is_outside returns-2)

@@ -4,11 +4,11 @@ use Rattle.checksum.proofs.Crcs.{bit_odd, bit_even}
 use Rattle.checksum.proofs.crc_bit.Statement.{statement}
 use Rattle.checksum.proofs.crc_bit.Tie as tie
 
-returns : tie.Need-returns
-returns c = sym (bit_odd _ c.if1.true)
+returns-then-c-eq1 : tie.Need-returns-then-c-eq1
+returns-then-c-eq1 c = sym (bit_odd _ c.if-c-eq1.true)
 
-returns-2 : tie.Need-returns-2
-returns-2 c = sym (bit_even _ c.if1.false)
+returns-else-c-eq1 : tie.Need-returns-else-c-eq1
+returns-else-c-eq1 c = sym (bit_even _ c.if-c-eq1.false)
 
-pub crc-bit-spec : {M : Type 1} → statement M
-crc-bit-spec = tie.close (tie.spec returns returns-2)
+pub crc_bit_spec : {M : Type 1} → statement M
+crc_bit_spec = tie.close (tie.spec returns-then-c-eq1 returns-else-c-eq1)

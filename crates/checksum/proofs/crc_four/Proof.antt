@@ -32,12 +32,12 @@ returns : tie.Need-returns
 returns c =
     let two = c.before.before in
     let w = two.before.before in
-    four_by _ (small w) _ _ _ _ two.before.entry.ensures two.entry2.ensures c.before.entry3.ensures c.entry4.ensures
+    four_by _ (small w) _ _ _ _ two.before.entry.ensures two.entry-2.ensures c.before.entry-3.ensures c.entry-4.ensures
     ∙ ap (λ (r : ℕ). crc_bits 32 (bit_xor r w.word.result)) w.before.before.requires.1
     ∙ w.word.ensures
 
-pub crc-four-spec : {M : Type 1} → statement M
-crc-four-spec =
+pub crc_four_spec : {M : Type 1} → statement M
+crc_four_spec =
     tie.close
     (tie.spec
     word-requires

@@ -8,51 +8,51 @@ use Rattle.checksum.proofs.Tables.{after_one, stored_less}
 use Rattle.checksum.proofs.crc_rest.Statement.{statement}
 use Rattle.checksum.proofs.crc_rest.Tie as tie
 
-abbrev invariant-loop : tie.invariant-loop
+abbrev invariant-loop : tie.invariant-loop-i
 invariant-loop table start bytes c₀ i₀ c i = (i ≤ length bytes) × (c ≡ crc_after (λ (k : ℕ). get_or bytes k 0) i)
 
-abbrev decreases-loop : tie.decreases-loop
+abbrev decreases-loop : tie.decreases-loop-i
 decreases-loop table start bytes c₀ i₀ c i = length bytes - i
 
-mul-i : tie.Need-overflow-mul-i invariant-loop decreases-loop
-mul-i c = omega arith
+overflow_mul-i : tie.Need-overflow_mul-i invariant-loop decreases-loop
+overflow_mul-i c = omega arith
 
-loop-holds : tie.Need-loop-init invariant-loop decreases-loop
-loop-holds c = (omega arith, c.before.requires.1)
+loop-i-init : tie.Need-loop-i-init invariant-loop decreases-loop
+loop-i-init c = (omega arith, c.before.requires.1)
 
-shared-slice-read-x : tie.Need-shared-slice-read-x invariant-loop decreases-loop
-shared-slice-read-x c = omega arith
+bounds-bytes-i : tie.Need-bounds-bytes-i invariant-loop decreases-loop
+bounds-bytes-i c = omega arith
 
-cast-x : tie.Need-overflow-cast-x invariant-loop decreases-loop
-cast-x c = omega (arith, c.shared-slice-known2.given c.before.before.loop.i)
+overflow_cast-x : tie.Need-overflow_cast-x invariant-loop decreases-loop
+overflow_cast-x c = omega (arith, c.shared_slice_known-in-loop-i-1.given c.before.before.loop-i.i)
 
 entry-requires : tie.Need-entry-requires invariant-loop decreases-loop
 entry-requires c κs = (omega arith, stored_less (omega arith) c.before.before.before.before.requires.0)
 
-add-i : tie.Need-overflow-add-i invariant-loop decreases-loop
-add-i c = omega arith
+overflow_add-i : tie.Need-overflow_add-i invariant-loop decreases-loop
+overflow_add-i c = omega arith
 
-loop-less : tie.Need-loop-smaller invariant-loop decreases-loop
-loop-less c = omega arith
+loop-i-smaller : tie.Need-loop-i-smaller invariant-loop decreases-loop
+loop-i-smaller c = omega arith
 
-loop-again : tie.Need-loop-preserved invariant-loop decreases-loop
-loop-again c = (omega arith, after_one _ _ _ _ c.before.before.before.loop.invariant.1 c.entry.ensures)
+loop-i-preserved : tie.Need-loop-i-preserved invariant-loop decreases-loop
+loop-i-preserved c = (omega arith, after_one _ _ _ _ c.before.before.before.loop-i.invariant.1 c.entry.ensures)
 
 returns : tie.Need-returns invariant-loop decreases-loop
-returns c = c.before.loop.invariant.1 ∙ ap (crc_after _) (omega arith)
+returns c = c.before.loop-i.invariant.1 ∙ ap (crc_after _) (omega arith)
 
-pub crc-rest-spec : {M : Type 1} → statement M
-crc-rest-spec =
+pub crc_rest_spec : {M : Type 1} → statement M
+crc_rest_spec =
     tie.close
     (tie.spec
     invariant-loop
     decreases-loop
-    mul-i
-    loop-holds
-    shared-slice-read-x
-    cast-x
+    overflow_mul-i
+    loop-i-init
+    bounds-bytes-i
+    overflow_cast-x
     entry-requires
-    add-i
-    loop-less
-    loop-again
+    overflow_add-i
+    loop-i-smaller
+    loop-i-preserved
     returns)

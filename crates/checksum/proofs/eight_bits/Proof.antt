@@ -9,31 +9,31 @@ use Rattle.checksum.proofs.eight_bits.Statement.{statement}
 use Rattle.checksum.proofs.eight_bits.Tie as tie
 
 -- what is left to do is done to the register
-abbrev invariant-loop : tie.invariant-loop
+abbrev invariant-loop : tie.invariant-loop-i
 invariant-loop start c₀ i₀ c i = (i ≤ 8) × (crc_bits 8 start ≡ crc_bits (8 - i) c)
 
-abbrev decreases-loop : tie.decreases-loop
+abbrev decreases-loop : tie.decreases-loop-i
 decreases-loop start c₀ i₀ c i = 8 - i
 
-loop-holds : tie.Need-loop-init invariant-loop decreases-loop
-loop-holds c = (omega arith, refl)
+loop-i-init : tie.Need-loop-i-init invariant-loop decreases-loop
+loop-i-init c = (omega arith, refl)
 
-crc-bit-requires : tie.Need-crc-bit-requires invariant-loop decreases-loop
-crc-bit-requires c κs = search rules
+crc_bit-c-requires : tie.Need-crc_bit-c-requires invariant-loop decreases-loop
+crc_bit-c-requires c κs = search rules
 
-add-i : tie.Need-overflow-add-i invariant-loop decreases-loop
-add-i c = omega arith
+overflow_add-i : tie.Need-overflow_add-i invariant-loop decreases-loop
+overflow_add-i c = omega arith
 
-loop-less : tie.Need-loop-smaller invariant-loop decreases-loop
-loop-less c = omega arith
+loop-i-smaller : tie.Need-loop-i-smaller invariant-loop decreases-loop
+loop-i-smaller c = omega arith
 
-loop-again : tie.Need-loop-preserved invariant-loop decreases-loop
-loop-again c = (omega arith, c.before.before.loop.invariant.1 ∙ bits_turn _ _ _ (omega arith) ∙ ap (crc_bits _) (sym c.crc-bit.ensures))
+loop-i-preserved : tie.Need-loop-i-preserved invariant-loop decreases-loop
+loop-i-preserved c = (omega arith, c.before.before.loop-i.invariant.1 ∙ bits_turn _ _ _ (omega arith) ∙ ap (crc_bits _) (sym c.crc_bit-c.ensures))
 
 returns : tie.Need-returns invariant-loop decreases-loop
 returns c =
-    let e : 8 - c.before.loop.i ≡ 0 = omega arith in
-    sym (c.before.loop.invariant.1 ∙ ap (λ (j : ℕ). crc_bits j c.before.loop.c) e ∙ bits_none _)
+    let e : 8 - c.before.loop-i.i ≡ 0 = omega arith in
+    sym (c.before.loop-i.invariant.1 ∙ ap (λ (j : ℕ). crc_bits j c.before.loop-i.c) e ∙ bits_none _)
 
-pub eight-bits-spec : {M : Type 1} → statement M
-eight-bits-spec = tie.close (tie.spec invariant-loop decreases-loop loop-holds crc-bit-requires add-i loop-less loop-again returns)
+pub eight_bits_spec : {M : Type 1} → statement M
+eight_bits_spec = tie.close (tie.spec invariant-loop decreases-loop loop-i-init crc_bit-c-requires overflow_add-i loop-i-smaller loop-i-preserved returns)

@@ -8,51 +8,51 @@ use borrow.Author.Rules.{rules}
 use Rattle.checksum.proofs.first_table.Statement.{statement}
 use Rattle.checksum.proofs.first_table.Tie as tie
 
-abbrev invariant-loop : tie.invariant-loop
+abbrev invariant-loop : tie.invariant-loop-n
 invariant-loop table₀ n₀ table n = (n ≤ 256) × Stored n table
 
-abbrev decreases-loop : tie.decreases-loop
+abbrev decreases-loop : tie.decreases-loop-n
 decreases-loop table₀ n₀ table n = 256 - n
 
-loop-holds : tie.Need-loop-init invariant-loop decreases-loop
-loop-holds c = (omega arith, stored_none c.requires)
+loop-n-init : tie.Need-loop-n-init invariant-loop decreases-loop
+loop-n-init c = (omega arith, stored_none c.requires)
 
-cast-eight-bits : tie.Need-overflow-cast-eight-bits invariant-loop decreases-loop
-cast-eight-bits c = omega arith
+overflow_cast-n : tie.Need-overflow_cast-n invariant-loop decreases-loop
+overflow_cast-n c = omega arith
 
-eight-bits-requires : tie.Need-eight-bits-requires invariant-loop decreases-loop
-eight-bits-requires c κs = search rules
+eight_bits-requires : tie.Need-eight_bits-requires invariant-loop decreases-loop
+eight_bits-requires c κs = search rules
 
-mul-table : tie.Need-overflow-mul-table invariant-loop decreases-loop
-mul-table c = omega arith
+offset_bounds-table-n : tie.Need-offset_bounds-table-n invariant-loop decreases-loop
+offset_bounds-table-n c = omega arith
 
-element-write-table : tie.Need-element-write-table invariant-loop decreases-loop
-element-write-table c = omega arith
+bounds-table-n : tie.Need-bounds-table-n invariant-loop decreases-loop
+bounds-table-n c = omega arith
 
-add-n : tie.Need-overflow-add-n invariant-loop decreases-loop
-add-n c = omega arith
+overflow_add-n : tie.Need-overflow_add-n invariant-loop decreases-loop
+overflow_add-n c = omega arith
 
-loop-less : tie.Need-loop-smaller invariant-loop decreases-loop
-loop-less c = omega arith
+loop-n-smaller : tie.Need-loop-n-smaller invariant-loop decreases-loop
+loop-n-smaller c = omega arith
 
-loop-again : tie.Need-loop-preserved invariant-loop decreases-loop
-loop-again c = (omega arith, stored_more _ (omega arith) (c.eight-bits.ensures ∙ first_entry _ (omega arith)) c.before.before.loop.invariant.1)
+loop-n-preserved : tie.Need-loop-n-preserved invariant-loop decreases-loop
+loop-n-preserved c = (omega arith, stored_more _ (omega arith) (c.eight_bits.ensures ∙ first_entry _ (omega arith)) c.before.before.loop-n.invariant.1)
 
 returns : tie.Need-returns invariant-loop decreases-loop
-returns c = stored_less (omega arith) c.before.loop.invariant.1
+returns c = stored_less (omega arith) c.before.loop-n.invariant.1
 
-pub first-table-spec : {M : Type 1} → statement M
-first-table-spec =
+pub first_table_spec : {M : Type 1} → statement M
+first_table_spec =
     tie.close
     (tie.spec
     invariant-loop
     decreases-loop
-    loop-holds
-    cast-eight-bits
-    eight-bits-requires
-    mul-table
-    element-write-table
-    add-n
-    loop-less
-    loop-again
+    loop-n-init
+    overflow_cast-n
+    eight_bits-requires
+    offset_bounds-table-n
+    bounds-table-n
+    overflow_add-n
+    loop-n-smaller
+    loop-n-preserved
     returns)

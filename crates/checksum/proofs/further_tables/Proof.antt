@@ -6,61 +6,61 @@ use Rattle.checksum.proofs.Tables.{next_by, stored_more, stored_less}
 use Rattle.checksum.proofs.further_tables.Statement.{statement}
 use Rattle.checksum.proofs.further_tables.Tie as tie
 
-abbrev invariant-loop : tie.invariant-loop
+abbrev invariant-loop : tie.invariant-loop-n
 invariant-loop table₀ n₀ table n = (256 ≤ n) × (n ≤ 1024) × Stored n table
 
-abbrev decreases-loop : tie.decreases-loop
+abbrev decreases-loop : tie.decreases-loop-n
 decreases-loop table₀ n₀ table n = 1024 - n
 
-loop-holds : tie.Need-loop-init invariant-loop decreases-loop
-loop-holds c = (omega arith, omega arith, c.requires)
+loop-n-init : tie.Need-loop-n-init invariant-loop decreases-loop
+loop-n-init c = (omega arith, omega arith, c.requires)
 
-sub-x : tie.Need-overflow-sub-x invariant-loop decreases-loop
-sub-x c = omega arith
+overflow_sub-x : tie.Need-overflow_sub-x invariant-loop decreases-loop
+overflow_sub-x c = omega arith
 
-mul-x : tie.Need-overflow-mul-x invariant-loop decreases-loop
-mul-x c = omega arith
+offset_bounds-table-n : tie.Need-offset_bounds-table-n invariant-loop decreases-loop
+offset_bounds-table-n c = omega arith
 
-element-copy-out-x : tie.Need-element-copy-out-x invariant-loop decreases-loop
-element-copy-out-x c = omega arith
+bounds-table-n : tie.Need-bounds-table-n invariant-loop decreases-loop
+bounds-table-n c = omega arith
 
 entry-requires : tie.Need-entry-requires invariant-loop decreases-loop
-entry-requires c κs = let l = c.before.before.before.loop in (omega arith, stored_less l.invariant.0 l.invariant.2)
+entry-requires c κs = let l = c.before.before.before.loop-n in (omega arith, stored_less l.invariant.0 l.invariant.2)
 
-mul-table : tie.Need-overflow-mul-table invariant-loop decreases-loop
-mul-table c = omega arith
+offset_bounds-table-n-in-loop-n : tie.Need-offset_bounds-table-n-in-loop-n invariant-loop decreases-loop
+offset_bounds-table-n-in-loop-n c = omega arith
 
-element-write-table : tie.Need-element-write-table invariant-loop decreases-loop
-element-write-table c = omega arith
+bounds-table-n-in-loop-n : tie.Need-bounds-table-n-in-loop-n invariant-loop decreases-loop
+bounds-table-n-in-loop-n c = omega arith
 
-add-n : tie.Need-overflow-add-n invariant-loop decreases-loop
-add-n c = omega arith
+overflow_add-n : tie.Need-overflow_add-n invariant-loop decreases-loop
+overflow_add-n c = omega arith
 
-loop-less : tie.Need-loop-smaller invariant-loop decreases-loop
-loop-less c = omega arith
+loop-n-smaller : tie.Need-loop-n-smaller invariant-loop decreases-loop
+loop-n-smaller c = omega arith
 
-loop-again : tie.Need-loop-preserved invariant-loop decreases-loop
-loop-again c =
-    let l = c.before.before.before.before.loop in
+loop-n-preserved : tie.Need-loop-n-preserved invariant-loop decreases-loop
+loop-n-preserved c =
+    let l = c.before.before.before.before.loop-n in
     (omega arith, omega arith, stored_more _ (omega arith) (next_by _ _ _ l.invariant.0 (l.invariant.2.is _ (omega arith)) c.entry.ensures) l.invariant.2)
 
 returns : tie.Need-returns invariant-loop decreases-loop
-returns c = stored_less (omega arith) c.before.loop.invariant.2
+returns c = stored_less (omega arith) c.before.loop-n.invariant.2
 
-pub further-tables-spec : {M : Type 1} → statement M
-further-tables-spec =
+pub further_tables_spec : {M : Type 1} → statement M
+further_tables_spec =
     tie.close
     (tie.spec
     invariant-loop
     decreases-loop
-    loop-holds
-    sub-x
-    mul-x
-    element-copy-out-x
+    loop-n-init
+    overflow_sub-x
+    offset_bounds-table-n
+    bounds-table-n
     entry-requires
-    mul-table
-    element-write-table
-    add-n
-    loop-less
-    loop-again
+    offset_bounds-table-n-in-loop-n
+    bounds-table-n-in-loop-n
+    overflow_add-n
+    loop-n-smaller
+    loop-n-preserved
     returns)

@@ -5,63 +5,59 @@ use borrow.Author.Rules.{rules}
 use Rattle.chips.proofs.cross.Statement.{statement}
 use Rattle.chips.proofs.cross.Tie as tie
 
-slice-aggregate-read-full : tie.Need-slice-aggregate-read-full
-slice-aggregate-read-full c = search rules
+slice_bounds-read_full-end : tie.Need-slice_bounds-read_full-end
+slice_bounds-read_full-end c = search rules
 
-read-full-requires : tie.Need-read-full-requires
-read-full-requires c κs = search rules
+read_full-n-requires : tie.Need-read_full-n-requires
+read_full-n-requires c κs = search rules
 
 ended-requires : tie.Need-ended-requires
 ended-requires c κs = search rules
 
-slice-aggregate-write-all : tie.Need-slice-aggregate-write-all
-slice-aggregate-write-all c = search rules
+write_all-requires : tie.Need-write_all-requires
+write_all-requires c κs = search rules
 
-write-all-requires : tie.Need-write-all-requires
-write-all-requires c κs = search rules
+returns-then-not-ended : tie.Need-returns-then-not-ended
+returns-then-not-ended c = search rules
 
-returns : tie.Need-returns
-returns c = search rules
+slice_bounds-lent-end : tie.Need-slice_bounds-lent-end
+slice_bounds-lent-end c = search rules
 
-array-share-prefix-lent : tie.Need-array-share-prefix-lent
-array-share-prefix-lent c = search rules
+slice_bounds-one_way-end : tie.Need-slice_bounds-one_way-end
+slice_bounds-one_way-end c = search rules
 
-slice-aggregate-one-way : tie.Need-slice-aggregate-one-way
-slice-aggregate-one-way c = search rules
+slice_bounds-one_way-end-2 : tie.Need-slice_bounds-one_way-end-2
+slice_bounds-one_way-end-2 c = search rules
 
-slice-aggregate-one-way-2 : tie.Need-slice-aggregate-one-way-2
-slice-aggregate-one-way-2 c = search rules
+one_way-answer-requires : tie.Need-one_way-answer-requires
+one_way-answer-requires c κs = search rules
 
-one-way-requires : tie.Need-one-way-requires
-one-way-requires c κs = search rules
+slice_bounds-room-end : tie.Need-slice_bounds-room-end
+slice_bounds-room-end c = search rules
 
-array-share-prefix-room : tie.Need-array-share-prefix-room
-array-share-prefix-room c = search rules
-
-slice-aggregate-finish : tie.Need-slice-aggregate-finish
-slice-aggregate-finish c = sym (length-take-le _ _ (array-share-prefix-room c.before))
+slice_bounds-finish-end : tie.Need-slice_bounds-finish-end
+slice_bounds-finish-end c = sym (length-take-le _ _ (slice_bounds-room-end c.before))
 
 finish-requires : tie.Need-finish-requires
 finish-requires c κs = search rules
 
-returns-2 : tie.Need-returns-2
+returns-2 : tie.Need-returns
 returns-2 c = search rules
 
-pub cross-spec : {M : Type 1} → statement M
-cross-spec =
+pub cross_spec : {M : Type 1} → statement M
+cross_spec =
     tie.close
     (tie.spec
-    slice-aggregate-read-full
-    read-full-requires
+    slice_bounds-read_full-end
+    read_full-n-requires
     ended-requires
-    slice-aggregate-write-all
-    write-all-requires
-    returns
-    array-share-prefix-lent
-    slice-aggregate-one-way
-    slice-aggregate-one-way-2
-    one-way-requires
-    array-share-prefix-room
-    slice-aggregate-finish
+    write_all-requires
+    returns-then-not-ended
+    slice_bounds-lent-end
+    slice_bounds-one_way-end
+    slice_bounds-one_way-end-2
+    one_way-answer-requires
+    slice_bounds-room-end
+    slice_bounds-finish-end
     finish-requires
     returns-2)

@@ -5,55 +5,55 @@ use lib.ListN.{length}
 use Rattle.chips.proofs.pins_in.Statement.{statement}
 use Rattle.chips.proofs.pins_in.Tie as tie
 
-abbrev invariant-loop : tie.invariant-loop
+abbrev invariant-loop : tie.invariant-loop-i
 invariant-loop word k₀ i₀ k i = i ≤ length word
 
-abbrev decreases-loop : tie.decreases-loop
+abbrev decreases-loop : tie.decreases-loop-i
 decreases-loop word k₀ i₀ k i = length word - i
 
-loop-holds : tie.Need-loop-init invariant-loop decreases-loop
-loop-holds c = search rules
+loop-i-init : tie.Need-loop-i-init invariant-loop decreases-loop
+loop-i-init c = search rules
 
-shared-slice-read-if1 : tie.Need-shared-slice-read-if1 invariant-loop decreases-loop
-shared-slice-read-if1 c = search rules
+bounds-word-i : tie.Need-bounds-word-i invariant-loop decreases-loop
+bounds-word-i c = search rules
 
-shared-slice-read-if1-2 : tie.Need-shared-slice-read-if1-2 invariant-loop decreases-loop
-shared-slice-read-if1-2 c = search rules
+bounds-word-i-in-loop-i : tie.Need-bounds-word-i-in-loop-i invariant-loop decreases-loop
+bounds-word-i-in-loop-i c = search rules
 
-returns : tie.Need-returns invariant-loop decreases-loop
-returns c = search rules
+returns-then-word-i : tie.Need-returns-then-word-i invariant-loop decreases-loop
+returns-then-word-i c = search rules
 
-shared-slice-read-next-number : tie.Need-shared-slice-read-next-number invariant-loop decreases-loop
-shared-slice-read-next-number c = search rules
+bounds-word-i-in-loop-i-2 : tie.Need-bounds-word-i-in-loop-i-2 invariant-loop decreases-loop
+bounds-word-i-in-loop-i-2 c = search rules
 
-next-number-requires : tie.Need-next-number-requires invariant-loop decreases-loop
-next-number-requires c κs = search rules
+next_number-k-requires : tie.Need-next_number-k-requires invariant-loop decreases-loop
+next_number-k-requires c κs = search rules
 
-add-i : tie.Need-overflow-add-i invariant-loop decreases-loop
-add-i c = search rules
+overflow_add-i : tie.Need-overflow_add-i invariant-loop decreases-loop
+overflow_add-i c = search rules
 
-loop-less : tie.Need-loop-smaller invariant-loop decreases-loop
-loop-less c = search rules
+loop-i-smaller : tie.Need-loop-i-smaller invariant-loop decreases-loop
+loop-i-smaller c = search rules
 
-loop-again : tie.Need-loop-preserved invariant-loop decreases-loop
-loop-again c = search rules
+loop-i-preserved : tie.Need-loop-i-preserved invariant-loop decreases-loop
+loop-i-preserved c = search rules
 
-returns-2 : tie.Need-returns-2 invariant-loop decreases-loop
+returns-2 : tie.Need-returns invariant-loop decreases-loop
 returns-2 c = search rules
 
-pub pins-in-spec : {M : Type 1} → statement M
-pins-in-spec =
+pub pins_in_spec : {M : Type 1} → statement M
+pins_in_spec =
     tie.close
     (tie.spec
     invariant-loop
     decreases-loop
-    loop-holds
-    shared-slice-read-if1
-    shared-slice-read-if1-2
-    returns
-    shared-slice-read-next-number
-    next-number-requires
-    add-i
-    loop-less
-    loop-again
+    loop-i-init
+    bounds-word-i
+    bounds-word-i-in-loop-i
+    returns-then-word-i
+    bounds-word-i-in-loop-i-2
+    next_number-k-requires
+    overflow_add-i
+    loop-i-smaller
+    loop-i-preserved
     returns-2)

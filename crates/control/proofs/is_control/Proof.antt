@@ -3,5 +3,5 @@ use mathlib.Core.Path.{refl}
 use Rattle.control.proofs.is_control.Statement.{statement}
 use Rattle.control.proofs.is_control.Tie as tie
 
-pub is-control-spec : {M : Type 1} → statement M
-is-control-spec = tie.close (tie.spec (λ c. refl))
+pub is_control_spec : {M : Type 1} → statement M
+is_control_spec = tie.close (tie.spec (λ c. refl))

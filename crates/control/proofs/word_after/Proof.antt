@@ -8,22 +8,22 @@ use Rattle.control.proofs.Masks.{set_mask, clear_mask}
 use Rattle.control.proofs.word_after.Statement.{statement}
 use Rattle.control.proofs.word_after.Tie as tie
 
-sub-bit : tie.Need-overflow-sub-bit
-sub-bit c = (bounds _ c.requires).0
+overflow_sub-bit : tie.Need-overflow_sub-bit
+overflow_sub-bit c = (bounds _ c.requires).0
 
-shl-mask : tie.Need-overflow-shl-mask
-shl-mask c = in_word _ c.requires
+overflow_shl-mask : tie.Need-overflow_shl-mask
+overflow_shl-mask c = in_word _ c.requires
 
-returns : tie.Need-returns
+returns-then-address-eq1 : tie.Need-returns-then-address-eq1
 unfolding word_after
-returns c =
-    set_mask c.before.args.word _ (in_word _ c.before.requires) ∙ ap (with_bit c.before.args.word _) (sym c.if1.true)
+returns-then-address-eq1 c =
+    set_mask c.before.args.word _ (in_word _ c.before.requires) ∙ ap (with_bit c.before.args.word _) (sym c.if-address-eq1.true)
 
-returns-2 : tie.Need-returns-2
+returns-else-address-eq1 : tie.Need-returns-else-address-eq1
 unfolding word_after
-returns-2 c =
+returns-else-address-eq1 c =
     let even : 0 ≡ c.before.args.address % 2 = omega arith in
     clear_mask c.before.args.word _ c.before.ranges.word.fits (in_word _ c.before.requires) ∙ ap (with_bit c.before.args.word _) even
 
-pub word-after-spec : {M : Type 1} → statement M
-word-after-spec = tie.close (tie.spec sub-bit shl-mask returns returns-2)
+pub word_after_spec : {M : Type 1} → statement M
+word_after_spec = tie.close (tie.spec overflow_sub-bit overflow_shl-mask returns-then-address-eq1 returns-else-address-eq1)

@@ -4,14 +4,14 @@ use Rattle.counter.specs.Counter.{kept_from}
 use Rattle.counter.proofs.clears_b4.Statement.{statement}
 use Rattle.counter.proofs.clears_b4.Tie as tie
 
-video-mode-requires : tie.Need-video-mode-requires
-video-mode-requires c κs = search rules
+video_mode-requires : tie.Need-video_mode-requires
+video_mode-requires c κs = search rules
 
-kept-from-requires : tie.Need-kept-from-requires
-kept-from-requires c κs = search rules
+kept_from-kept-requires : tie.Need-kept_from-kept-requires
+kept_from-kept-requires c κs = search rules
 
 returns : tie.Need-returns
-returns c = ap (λ (k : ℕ). eqb k 5) (c.kept_from.ensures ∙ ap (λ (v : ℕ). get_or kept_from v 0) c.before.video-mode.ensures)
+returns c = ap (λ (k : ℕ). eqb k 5) (c.kept_from-kept.ensures ∙ ap (λ (v : ℕ). get_or kept_from v 0) c.before.video_mode.ensures)
 
-pub clears-b4-spec : {M : Type 1} → statement M
-clears-b4-spec = tie.close (tie.spec video-mode-requires kept-from-requires returns)
+pub clears_b4_spec : {M : Type 1} → statement M
+clears_b4_spec = tie.close (tie.spec video_mode-requires kept_from-kept-requires returns)

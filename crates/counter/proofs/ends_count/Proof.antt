@@ -3,17 +3,17 @@ use Rattle.std.proofs.Common.{rules}
 use Rattle.counter.proofs.ends_count.Statement.{statement}
 use Rattle.counter.proofs.ends_count.Tie as tie
 
-width-requires : tie.Need-width-requires
-width-requires c κs = search rules
+width-one_run-requires : tie.Need-width-one_run-requires
+width-one_run-requires c κs = search rules
 
-clears-b4-requires : tie.Need-clears-b4-requires
-clears-b4-requires c κs = search rules
+clears_b4-cleared-requires : tie.Need-clears_b4-cleared-requires
+clears_b4-cleared-requires c κs = search rules
 
-clearing-counts-requires : tie.Need-clearing-counts-requires
-clearing-counts-requires c κs = search rules
+clearing_counts-requires : tie.Need-clearing_counts-requires
+clearing_counts-requires c κs = search rules
 
 returns : tie.Need-returns
-returns c = rw (c.clearing-counts.ensures, c.before.before.width.ensures, c.before.clears-b4.ensures)
+returns c = rw (c.clearing_counts.ensures, c.before.before.width-one_run.ensures, c.before.clears_b4-cleared.ensures)
 
-pub ends-count-spec : {M : Type 1} → statement M
-ends-count-spec = tie.close (tie.spec width-requires clears-b4-requires clearing-counts-requires returns)
+pub ends_count_spec : {M : Type 1} → statement M
+ends_count_spec = tie.close (tie.spec width-one_run-requires clears_b4-cleared-requires clearing_counts-requires returns)

@@ -4,14 +4,14 @@ use Rattle.counter.proofs.Tables.{kept_rest}
 use Rattle.counter.proofs.kept_from.Statement.{statement}
 use Rattle.counter.proofs.kept_from.Tie as tie
 
-returns : tie.Need-returns
-returns c = ⊎_elim (λ e. rw e) (⊎_elim (λ e. rw e) (⊎_elim (λ e. rw e) (λ e. rw e))) c.match.keys1
+returns-in-0 : tie.Need-returns-in-0
+returns-in-0 c = ⊎_elim (λ e. rw e) (⊎_elim (λ e. rw e) (⊎_elim (λ e. rw e) (λ e. rw e))) c.in_default.keys1
 
-returns-2 : tie.Need-returns-2
-returns-2 c = ⊎_elim (λ e. rw e) (⊎_elim (λ e. rw e) (λ e. rw e)) c.match.keys2
+returns-in-1 : tie.Need-returns-in-1
+returns-in-1 c = ⊎_elim (λ e. rw e) (⊎_elim (λ e. rw e) (λ e. rw e)) c.in_default.keys2
 
-returns-3 : tie.Need-returns-3
-returns-3 c = kept_rest c.before.args.v c.before.requires c.match.rest.0.1 c.match.rest.1
+returns-in_default : tie.Need-returns-in_default
+returns-in_default c = kept_rest c.before.args.v c.before.requires c.in_default.rest.0.1 c.in_default.rest.1
 
-pub kept-from-spec : {M : Type 1} → statement M
-kept-from-spec = tie.close (tie.spec returns returns-2 returns-3)
+pub kept_from_spec : {M : Type 1} → statement M
+kept_from_spec = tie.close (tie.spec returns-in-0 returns-in-1 returns-in_default)

@@ -9,78 +9,78 @@ use Rattle.counter.proofs.line_lasts.Statement.{statement}
 use Rattle.counter.proofs.line_lasts.Tie as tie
 
 -- where the X divider was read, and where the function starts
-abbrev x-of : tie.After-ends-count → tie.After-times-x
+abbrev x-of : tie.After-ends_count → tie.After-times_x-x
 x-of c = c.before.before.before.before
 
-abbrev start_of : tie.After-ends-count → tie.Start
+abbrev start_of : tie.After-ends_count → tie.Start
 start_of c = (x-of c).before.before
 
 -- what was read is that of the settings
-x-is : (c : tie.After-ends-count) → (x-of c).times-x.result ≡ div_x (start_of c).args.settings
-x-is c = (x-of c).times-x.ensures ∙ ap (λ (v : ℕ). get_or times_x v 0) (x-of c).before.video-mode.ensures
+x-is : (c : tie.After-ends_count) → (x-of c).times_x-x.result ≡ div_x (start_of c).args.settings
+x-is c = (x-of c).times_x-x.ensures ∙ ap (λ (v : ℕ). get_or times_x v 0) (x-of c).before.video_mode-v.ensures
 
-y-is : (c : tie.After-ends-count) → c.before.before.before.times-y.result ≡ div_y (start_of c).args.settings
-y-is c = c.before.before.before.times-y.ensures ∙ ap (λ (v : ℕ). get_or times_y v 0) (x-of c).before.video-mode.ensures
+y-is : (c : tie.After-ends_count) → c.before.before.before.times_y-y.result ≡ div_y (start_of c).args.settings
+y-is c = c.before.before.before.times_y-y.ensures ∙ ap (λ (v : ℕ). get_or times_y v 0) (x-of c).before.video_mode-v.ensures
 
-both_is : (c : tie.After-ends-count) → eqb (width (start_of c).args.settings.look) 16 && clears_b4 (start_of c).args.settings ≡ eqb c.before.before.width.result 16 && c.before.clears-b4.result
-both_is c = sym (ap₂ (λ (w : ℕ) (b : Bool). eqb w 16 && b) c.before.before.width.ensures c.before.clears-b4.ensures)
+both_is : (c : tie.After-ends_count) → eqb (width (start_of c).args.settings.look) 16 && clears_b4 (start_of c).args.settings ≡ eqb c.before.before.width-one_run.result 16 && c.before.clears_b4-cleared.result
+both_is c = sym (ap₂ (λ (w : ℕ) (b : Bool). eqb w 16 && b) c.before.before.width-one_run.ensures c.before.clears_b4-cleared.ensures)
 
-stretch-is : (c : tie.After-ends-count) → one_stretch (start_of c).args.settings ≡ eqb c.before.before.width.result 16 || eqb (x-of c).times-x.result 1
-stretch-is c = sym (ap₂ (λ (w x : ℕ). eqb w 16 || eqb x 1) c.before.before.width.ensures (x-is c))
+stretch-is : (c : tie.After-ends_count) → one_stretch (start_of c).args.settings ≡ eqb c.before.before.width-one_run.result 16 || eqb (x-of c).times_x-x.result 1
+stretch-is c = sym (ap₂ (λ (w x : ℕ). eqb w 16 || eqb x 1) c.before.before.width-one_run.ensures (x-is c))
 
-video-mode-requires : tie.Need-video-mode-requires
-video-mode-requires c κs = search rules
+video_mode-v-requires : tie.Need-video_mode-v-requires
+video_mode-v-requires c κs = search rules
 
-times-x-requires : tie.Need-times-x-requires
-times-x-requires c κs = search rules
+times_x-x-requires : tie.Need-times_x-x-requires
+times_x-x-requires c κs = search rules
 
-times-y-requires : tie.Need-times-y-requires
-times-y-requires c κs = search rules
+times_y-y-requires : tie.Need-times_y-y-requires
+times_y-y-requires c κs = search rules
 
-width-requires : tie.Need-width-requires
-width-requires c κs = search rules
+width-one_run-requires : tie.Need-width-one_run-requires
+width-one_run-requires c κs = search rules
 
-clears-b4-requires : tie.Need-clears-b4-requires
-clears-b4-requires c κs = search rules
+clears_b4-cleared-requires : tie.Need-clears_b4-cleared-requires
+clears_b4-cleared-requires c κs = search rules
 
-ends-count-requires : tie.Need-ends-count-requires
-ends-count-requires c κs = search rules
+ends_count-requires : tie.Need-ends_count-requires
+ends_count-requires c κs = search rules
 
-returns : tie.Need-returns
-returns c = y-is c.before ∙ sym (counted_lasts (start_of c.before).args.settings (sym c.before.ends-count.ensures ∙ c.if1.true))
+returns-then-ends_count : tie.Need-returns-then-ends_count
+returns-then-ends_count c = y-is c.before ∙ sym (counted_lasts (start_of c.before).args.settings (sym c.before.ends_count.ensures ∙ c.if-ends_count.true))
 
-returns-2 : tie.Need-returns-2
-returns-2 c =
+returns-then-one_run-cleared : tie.Need-returns-then-one_run-cleared
+returns-then-one_run-cleared c =
     let e = c.before.before in
-    sym (uncounted_lasts (start_of e).args.settings _ _ (sym e.ends-count.ensures ∙ c.before.if1.false) (both_is e ∙ c.if2.true) (stretch-is e))
+    sym (uncounted_lasts (start_of e).args.settings _ _ (sym e.ends_count.ensures ∙ c.before.if-ends_count.false) (both_is e ∙ c.if-one_run-cleared.true) (stretch-is e))
 
-mul-result : tie.Need-overflow-mul-result
-mul-result c =
+overflow_mul-result : tie.Need-overflow_mul-result
+overflow_mul-result c =
     let e = c.before.before.before in
     omega (arith, subst (λ (n : ℕ). n ≤ 12) (sym (ap₂ ◌*◌ (x-is e) (y-is e))) (divs_le (start_of e).args.settings))
 
-returns-3 : tie.Need-returns-3
-returns-3 c =
+returns-then-one_run-x : tie.Need-returns-then-one_run-x
+returns-then-one_run-x c =
     let e = c.before.before.before in
-    ap₂ ◌*◌ (x-is e) (y-is e) ∙ sym (uncounted_lasts (start_of e).args.settings _ _ (sym e.ends-count.ensures ∙ c.before.before.if1.false) (both_is e ∙ c.before.if2.false) (stretch-is e ∙ c.if3.true))
+    ap₂ ◌*◌ (x-is e) (y-is e) ∙ sym (uncounted_lasts (start_of e).args.settings _ _ (sym e.ends_count.ensures ∙ c.before.before.if-ends_count.false) (both_is e ∙ c.before.if-one_run-cleared.false) (stretch-is e ∙ c.if-one_run-x.true))
 
-returns-4 : tie.Need-returns-4
-returns-4 c =
+returns-else-one_run-x : tie.Need-returns-else-one_run-x
+returns-else-one_run-x c =
     let e = c.before.before.before in
-    sym (uncounted_lasts (start_of e).args.settings _ _ (sym e.ends-count.ensures ∙ c.before.before.if1.false) (both_is e ∙ c.before.if2.false) (stretch-is e ∙ c.if3.false))
+    sym (uncounted_lasts (start_of e).args.settings _ _ (sym e.ends_count.ensures ∙ c.before.before.if-ends_count.false) (both_is e ∙ c.before.if-one_run-cleared.false) (stretch-is e ∙ c.if-one_run-x.false))
 
-pub line-lasts-spec : {M : Type 1} → statement M
-line-lasts-spec =
+pub line_lasts_spec : {M : Type 1} → statement M
+line_lasts_spec =
     tie.close
     (tie.spec
-    video-mode-requires
-    times-x-requires
-    times-y-requires
-    width-requires
-    clears-b4-requires
-    ends-count-requires
-    returns
-    returns-2
-    mul-result
-    returns-3
-    returns-4)
+    video_mode-v-requires
+    times_x-x-requires
+    times_y-y-requires
+    width-one_run-requires
+    clears_b4-cleared-requires
+    ends_count-requires
+    returns-then-ends_count
+    returns-then-one_run-cleared
+    overflow_mul-result
+    returns-then-one_run-x
+    returns-else-one_run-x)

@@ -7,20 +7,20 @@ use Rattle.counter.proofs.line_step.Statement.{statement}
 use Rattle.counter.proofs.line_step.Tie as tie
 
 -- what was asked is of the settings
-asked : (c : tie.After-clears-b4) → let s = c.before.before.args.settings in c.clears-b4.result || eqb c.before.width.result 32 ≡ clears_b4 s || eqb (width s.look) 32
-asked c = ap₂ (λ (b : Bool) (w : ℕ). b || eqb w 32) c.clears-b4.ensures c.before.width.ensures
+asked : (c : tie.After-clears_b4) → let s = c.before.before.args.settings in c.clears_b4.result || eqb c.before.width-two_runs.result 32 ≡ clears_b4 s || eqb (width s.look) 32
+asked c = ap₂ (λ (b : Bool) (w : ℕ). b || eqb w 32) c.clears_b4.ensures c.before.width-two_runs.ensures
 
-width-requires : tie.Need-width-requires
-width-requires c κs = search rules
+width-two_runs-requires : tie.Need-width-two_runs-requires
+width-two_runs-requires c κs = search rules
 
-clears-b4-requires : tie.Need-clears-b4-requires
-clears-b4-requires c κs = search rules
+clears_b4-requires : tie.Need-clears_b4-requires
+clears_b4-requires c κs = search rules
 
-returns : tie.Need-returns
-returns c = ap (λ (b : Bool). choose b 32 16) (sym c.if1.true ∙ asked c.before)
+returns-then-clears_b4-two_runs : tie.Need-returns-then-clears_b4-two_runs
+returns-then-clears_b4-two_runs c = ap (λ (b : Bool). choose b 32 16) (sym c.if-clears_b4-two_runs.true ∙ asked c.before)
 
-returns-2 : tie.Need-returns-2
-returns-2 c = ap (λ (b : Bool). choose b 32 16) (sym c.if1.false ∙ asked c.before)
+returns-else-clears_b4-two_runs : tie.Need-returns-else-clears_b4-two_runs
+returns-else-clears_b4-two_runs c = ap (λ (b : Bool). choose b 32 16) (sym c.if-clears_b4-two_runs.false ∙ asked c.before)
 
-pub line-step-spec : {M : Type 1} → statement M
-line-step-spec = tie.close (tie.spec width-requires clears-b4-requires returns returns-2)
+pub line_step_spec : {M : Type 1} → statement M
+line_step_spec = tie.close (tie.spec width-two_runs-requires clears_b4-requires returns-then-clears_b4-two_runs returns-else-clears_b4-two_runs)

@@ -4,14 +4,14 @@ use Rattle.std.proofs.Common.{rules}
 use Rattle.counter.proofs.times_x.Statement.{statement}
 use Rattle.counter.proofs.times_x.Tie as tie
 
-returns : tie.Need-returns
-returns c = search rules
+returns-in-1 : tie.Need-returns-in-1
+returns-in-1 c = search rules
 
-returns-2 : tie.Need-returns-2
-returns-2 c = search rules
+returns-in-3 : tie.Need-returns-in-3
+returns-in-3 c = search rules
 
-returns-3 : tie.Need-returns-3
-returns-3 c = x_rest c.before.args.v c.before.requires c.match.rest.0.1 c.match.rest.1
+returns-in_default : tie.Need-returns-in_default
+returns-in_default c = x_rest c.before.args.v c.before.requires c.in_default.rest.0.1 c.in_default.rest.1
 
-pub times-x-spec : {M : Type 1} → statement M
-times-x-spec = tie.close (tie.spec returns returns-2 returns-3)
+pub times_x_spec : {M : Type 1} → statement M
+times_x_spec = tie.close (tie.spec returns-in-1 returns-in-3 returns-in_default)

@@ -4,17 +4,17 @@ use Rattle.std.proofs.Common.{rules}
 use Rattle.counter.proofs.times_y.Statement.{statement}
 use Rattle.counter.proofs.times_y.Tie as tie
 
-returns : tie.Need-returns
-returns c = search rules
+returns-in-0 : tie.Need-returns-in-0
+returns-in-0 c = search rules
 
-returns-2 : tie.Need-returns-2
-returns-2 c = search rules
+returns-in-2 : tie.Need-returns-in-2
+returns-in-2 c = search rules
 
-returns-3 : tie.Need-returns-3
-returns-3 c = search rules
+returns-in-4 : tie.Need-returns-in-4
+returns-in-4 c = search rules
 
-returns-4 : tie.Need-returns-4
-returns-4 c = y_rest c.before.args.v c.before.requires c.match.rest.0.0.1 c.match.rest.0.1 c.match.rest.1
+returns-in_default : tie.Need-returns-in_default
+returns-in_default c = y_rest c.before.args.v c.before.requires c.in_default.rest.0.0.1 c.in_default.rest.0.1 c.in_default.rest.1
 
-pub times-y-spec : {M : Type 1} → statement M
-times-y-spec = tie.close (tie.spec returns returns-2 returns-3 returns-4)
+pub times_y_spec : {M : Type 1} → statement M
+times_y_spec = tie.close (tie.spec returns-in-0 returns-in-2 returns-in-4 returns-in_default)

@@ -10,35 +10,35 @@ use Rattle.frame.proofs.draw.Tie as tie
 abbrev start_of : tie.After-number → tie.Start
 start_of c = c.before.before.before.before.before
 
-passed : (c : tie.Else1) → (told_of c.before.before.draw-answer.result).number ≡ 0
-passed c = sym c.before.number.ensures ∙ c.if1.false
+passed : (c : tie.Else-number-ne0) → (told_of c.before.before.draw_answer-answer.result).number ≡ 0
+passed c = sym c.before.number.ensures ∙ c.if-number-ne0.false
 
-draw-answer-requires : tie.Need-draw-answer-requires
-draw-answer-requires c κs = search rules
+draw_answer-answer-requires : tie.Need-draw_answer-answer-requires
+draw_answer-answer-requires c κs = search rules
 
 number-requires : tie.Need-number-requires
 number-requires c κs = search rules
 
-returns : tie.Need-returns
-returns c =
+returns-then-number-ne0 : tie.Need-returns-then-number-ne0
+returns-then-number-ne0 c =
     let b = start_of c.before in
-    kept b.args.look b.args.font.now b.args.strip.now b.args.frame.now c.before.before.draw-answer.ensures (λ z. c.if1.true (c.before.number.ensures ∙ z))
+    kept b.args.look b.args.font.now b.args.strip.now b.args.frame.now c.before.before.draw_answer-answer.ensures (λ z. c.if-number-ne0.true (c.before.number.ensures ∙ z))
 
 paint-requires : tie.Need-paint-requires
 paint-requires c κs =
     let b = start_of c.before.before in
-    all_fits b.args.look b.args.font.now b.args.strip.now b.args.frame.now c.before.before.before.draw-answer.ensures (passed c.before)
+    all_fits b.args.look b.args.font.now b.args.strip.now b.args.frame.now c.before.before.before.draw_answer-answer.ensures (passed c.before)
 
-same_length : tie.Need-same-length
-same_length c = search rules
+shape_of-frame : tie.Need-shape_of-frame
+shape_of-frame c = search rules
 
-returns-2 : tie.Need-returns-2
+returns-2 : tie.Need-returns
 returns-2 c =
     let e = c.before.before.before.before in
     let b = start_of e.before in
-    all_drawn b.args.look b.args.font.now b.args.strip.now b.args.frame.now e.before.before.draw-answer.ensures (passed e) c.before.before.paint.ensures
+    all_drawn b.args.look b.args.font.now b.args.strip.now b.args.frame.now e.before.before.draw_answer-answer.ensures (passed e) c.before.before.paint.ensures
 
-pub draw-spec : {M : Type 1} → statement M
-draw-spec =
+pub draw_spec : {M : Type 1} → statement M
+draw_spec =
     tie.close
-    (tie.spec draw-answer-requires number-requires returns paint-requires same_length returns-2)
+    (tie.spec draw_answer-answer-requires number-requires returns-then-number-ne0 paint-requires shape_of-frame returns-2)

@@ -13,7 +13,7 @@ use Rattle.frame.proofs.draw_answer.Statement.{statement}
 use Rattle.frame.proofs.draw_answer.Tie as tie
 
 -- where the function starts, from behind the first check
-abbrev start_of : tie.After-pins-above → tie.Start
+abbrev start_of : tie.After-pins_above-answer → tie.Start
 start_of c = c.before.before.before.before
 
 border-requires : tie.Need-border-requires
@@ -22,20 +22,20 @@ border-requires c κs = search rules
 wide-requires : tie.Need-wide-requires
 wide-requires c κs = search rules
 
-pins-above-requires : tie.Need-pins-above-requires
-pins-above-requires c κs = search rules
+pins_above-answer-requires : tie.Need-pins_above-answer-requires
+pins_above-answer-requires c κs = search rules
 
-font-length-requires : tie.Need-font-length-requires
-font-length-requires c κs = search rules
+font_length-answer-requires : tie.Need-font_length-answer-requires
+font_length-answer-requires c κs = search rules
 
-short-strip-requires : tie.Need-short-strip-requires
-short-strip-requires c κs = search rules
+short_strip-answer-requires : tie.Need-short_strip-answer-requires
+short_strip-answer-requires c κs = search rules
 
-short-frame-requires : tie.Need-short-frame-requires
-short-frame-requires c κs = search rules
+short_frame-answer-requires : tie.Need-short_frame-answer-requires
+short_frame-answer-requires c κs = search rules
 
-not-valid-requires : tie.Need-not-valid-requires
-not-valid-requires c κs = search rules
+not_valid-requires : tie.Need-not_valid-requires
+not_valid-requires c κs = search rules
 
 returns : tie.Need-returns
 returns c =
@@ -44,15 +44,15 @@ returns c =
     let e : told_of c.not_valid.result ≡ after_each order (done (border a.look)) = cc in
     e ∙ in_order (done (border a.look)) refl order tt
 
-pub draw-answer-spec : {M : Type 1} → statement M
-draw-answer-spec =
+pub draw_answer_spec : {M : Type 1} → statement M
+draw_answer_spec =
     tie.close
     (tie.spec
     border-requires
     wide-requires
-    pins-above-requires
-    font-length-requires
-    short-strip-requires
-    short-frame-requires
-    not-valid-requires
+    pins_above-answer-requires
+    font_length-answer-requires
+    short_strip-answer-requires
+    short_frame-answer-requires
+    not_valid-requires
     returns)

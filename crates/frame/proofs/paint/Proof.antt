@@ -16,38 +16,38 @@ graphics-requires : tie.Need-graphics-requires
 graphics-requires c κs = search rules
 
 plot-requires : tie.Need-plot-requires
-plot-requires c κs = let s = start_of c.before.before in (sym c.before.before.graphics.ensures ∙ c.before.if1.true, s.pre.strip_long, s.pre.frame_long)
+plot-requires c κs = let s = start_of c.before.before in (sym c.before.before.graphics.ensures ∙ c.before.if-graphics.true, s.requires.strip_long, s.requires.frame_long)
 
 text-requires : tie.Need-text-requires
 text-requires c κs =
     let s = start_of c.before.before in
-    let g = sym c.before.before.graphics.ensures ∙ c.before.if1.false in
-    (g, s.pre.font_whole g, omega (arith, text_width s.args.look g, s.pre.strip_long), s.pre.frame_long)
+    let g = sym c.before.before.graphics.ensures ∙ c.before.if-graphics.false in
+    (g, s.requires.font_whole g, omega (arith, text_width s.args.look g, s.requires.strip_long), s.requires.frame_long)
 
-same_length : tie.Need-same-length
-same_length c = search rules
+shape_of-frame-then-graphics : tie.Need-shape_of-frame-then-graphics
+shape_of-frame-then-graphics c = search rules
 
-returns : tie.Need-returns
-returns c =
+returns-then-graphics : tie.Need-returns-then-graphics
+returns-then-graphics c =
     let g = c.before.before.before.before.before in
     let s = start_of g in
-    by (λ k _ _. sym (in_graphics s.args.look s.args.font.now s.args.strip.now k (sym g.graphics.ensures ∙ c.before.before.before.before.if1.true)))
+    by (λ k _ _. sym (in_graphics s.args.look s.args.font.now s.args.strip.now k (sym g.graphics.ensures ∙ c.before.before.before.before.if-graphics.true)))
     c.before.before.plot.ensures
 
-same-length-2 : tie.Need-same-length-2
-same-length-2 c = search rules
+shape_of-frame-else-graphics : tie.Need-shape_of-frame-else-graphics
+shape_of-frame-else-graphics c = search rules
 
-returns-2 : tie.Need-returns-2
-returns-2 c = search rules
+returns-else-graphics : tie.Need-returns-else-graphics
+returns-else-graphics c = search rules
 
-pub paint-spec : {M : Type 1} → statement M
-paint-spec =
+pub paint_spec : {M : Type 1} → statement M
+paint_spec =
     tie.close
     (tie.spec
     graphics-requires
     plot-requires
     text-requires
-    same_length
-    returns
-    same-length-2
-    returns-2)
+    shape_of-frame-then-graphics
+    returns-then-graphics
+    shape_of-frame-else-graphics
+    returns-else-graphics)

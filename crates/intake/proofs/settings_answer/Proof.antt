@@ -8,18 +8,18 @@ use borrow.Author.Rules.{rules}
 use Rattle.intake.proofs.settings_answer.Statement.{statement}
 use Rattle.intake.proofs.settings_answer.Tie as tie
 
-pins-above-requires : tie.Need-pins-above-requires
-pins-above-requires c κs = search rules
+pins_above-answer-requires : tie.Need-pins_above-answer-requires
+pins_above-answer-requires c κs = search rules
 
-fast-rate-requires : tie.Need-fast-rate-requires
-fast-rate-requires c κs = search rules
+fast_rate-requires : tie.Need-fast_rate-requires
+fast_rate-requires c κs = search rules
 
 returns : tie.Need-returns
 returns c =
     let s = c.before.before.before.args.settings in
-    let e : told_of c.fast-rate.result ≡ after_each (setting_order s) (done 0) = cc in
+    let e : told_of c.fast_rate.result ≡ after_each (setting_order s) (done 0) = cc in
     e ∙ in_order (done 0) refl (setting_order s) tt
 
-pub settings-answer-spec : {M : Type 1} → statement M
-settings-answer-spec =
-    tie.close (tie.spec pins-above-requires fast-rate-requires returns)
+pub settings_answer_spec : {M : Type 1} → statement M
+settings_answer_spec =
+    tie.close (tie.spec pins_above-answer-requires fast_rate-requires returns)

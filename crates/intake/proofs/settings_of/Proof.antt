@@ -20,62 +20,62 @@ use Rattle.intake.proofs.settings_of.Statement.{statement}
 use Rattle.intake.proofs.settings_of.Tie as tie
 
 -- ---- the sheet's bytes and what was read of them, from each place
-abbrev bytes : tie.After-read → List ℕ
+abbrev bytes : tie.After-read-fields → List ℕ
 bytes c = c.before.before.args.sheet.now
 
-abbrev fields : tie.After-read → Sheet
-fields c = c.read.result
+abbrev fields : tie.After-read-fields → Sheet
+fields c = c.read-fields.result
 
-abbrev read_of : tie.Else1 → tie.After-read
+abbrev read_of : tie.Else-number-ne0 → tie.After-read-fields
 read_of c = c.before.before
 
-abbrev whole_of : tie.After-play → tie.Else1
+abbrev whole_of : tie.After-play-played → tie.Else-number-ne0
 whole_of c = c.before.before.before
 
-abbrev play-of : tie.Else2 → tie.After-play
+abbrev play-of : tie.Else-number-ne0-2 → tie.After-play-played
 play-of c = c.before.before
 
 -- the number of annotations, and the writes
-counted : (c : tie.After-read) → (fields c).annotations ≡ length (fields_in (bytes c)).annotations
-counted c = c.read.ensures.annotations
+counted : (c : tie.After-read-fields) → (fields c).annotations ≡ length (fields_in (bytes c)).annotations
+counted c = c.read-fields.ensures.annotations
 
-listed : (c : tie.After-read) → take (fields c).write_count (fields c).writes ≡ (fields_in (bytes c)).writes
-listed c = writes_are (fields_in (bytes c)).writes (fields c).writes (fields c).write_count c.read.ensures.writes c.read.ensures.count
+listed : (c : tie.After-read-fields) → take (fields c).write_count (fields c).writes-1 ≡ (fields_in (bytes c)).writes-1
+listed c = writes_are (fields_in (bytes c)).writes-1 (fields c).writes-1 (fields c).write_count c.read-fields.ensures.writes c.read-fields.ensures.count
 
 -- past the first test the sheet is accepted, and its writes are played
-accepted-at : (c : tie.Else1) → (told_in (bytes (read_of c))).number ≡ 0
-accepted-at c = ap (λ (t : Told). t.number) (sym (read_of c).read.ensures.told) ∙ sym c.before.number.ensures ∙ c.if1.false
+accepted-at : (c : tie.Else-number-ne0) → (told_in (bytes (read_of c))).number ≡ 0
+accepted-at c = ap (λ (t : Told). t.number) (sym (read_of c).read-fields.ensures.told) ∙ sym c.before.number.ensures ∙ c.if-number-ne0.false
 
-played-all : (c : tie.After-play) → told_of c.play.result ≡ play_told 0 (fields_in (bytes (read_of (whole_of c)))).writes
-played-all c = c.play.ensures ∙ ap (play_told 0) (listed (read_of (whole_of c)))
+played-all : (c : tie.After-play-played) → told_of c.play-played.result ≡ play_told 0 (fields_in (bytes (read_of (whole_of c)))).writes-1
+played-all c = c.play-played.ensures ∙ ap (play_told 0) (listed (read_of (whole_of c)))
 
 -- past the second none of them is elsewhere
-none_elsewhere : (c : tie.Else2) → (play_told 0 (fields_in (bytes (read_of (whole_of (play-of c))))).writes).number ≡ 0
-none_elsewhere c = ap (λ (t : Told). t.number) (sym (played-all (play-of c))) ∙ sym c.before.number2.ensures ∙ c.if2.false
+none_elsewhere : (c : tie.Else-number-ne0-2) → (play_told 0 (fields_in (bytes (read_of (whole_of (play-of c))))).writes-1).number ≡ 0
+none_elsewhere c = ap (λ (t : Told). t.number) (sym (played-all (play-of c))) ∙ sym c.before.number-2.ensures ∙ c.if-number-ne0-2.false
 
 -- the word that they leave, and the settings
-abbrev sheet-of : tie.After-value → tie.After-read
+abbrev sheet-of : tie.After-value → tie.After-read-fields
 sheet-of c = read_of (whole_of (play-of c.before))
 
-word-is : (c : tie.After-value) → (c.value.result ≡ played 0 (fields_in (bytes (sheet-of c))).writes) × (c.value.result < 2 ^ 16)
+word-is : (c : tie.After-value) → (c.value.result ≡ played 0 (fields_in (bytes (sheet-of c))).writes-1) × (c.value.result < 2 ^ 16)
 word-is c =
-    let d = played_done 0 (fields_in (bytes (sheet-of c))).writes (omega arith) (none_elsewhere c.before) in
+    let d = played_done 0 (fields_in (bytes (sheet-of c))).writes-1 (omega arith) (none_elsewhere c.before) in
     let e = c.value.ensures ∙ ap (λ (t : Told). t.value) (played-all (play-of c.before) ∙ d.0) in
     (e, rw e d.1)
 
 settings-are : (c : tie.After-value) → settings_of c.value.result (fields (sheet-of c)).pins (fields (sheet-of c)).rule ≡ settings_in (bytes (sheet-of c))
 unfolding settings_in
 settings-are c =
-    let r = (sheet-of c).read.ensures in
+    let r = (sheet-of c).read-fields.ensures in
     λ i. settings_of ((word-is c).0 i) (r.pins i) (r.rule i)
 
-judged : (c : tie.After-settings-answer) → told_of c.settings-answer.result ≡ intake_told (bytes (sheet-of c.before))
+judged : (c : tie.After-settings_answer-answer) → told_of c.settings_answer-answer.result ≡ intake_told (bytes (sheet-of c.before))
 judged c =
     told_settings (bytes (sheet-of c.before)) (accepted-at (whole_of (play-of c.before.before))) (none_elsewhere c.before.before)
-    (c.settings-answer.ensures ∙ ap (λ (t : Settings). first_of (setting_order t) (done 0)) (settings-are c.before))
+    (c.settings_answer-answer.ensures ∙ ap (λ (t : Settings). first_of (setting_order t) (done 0)) (settings-are c.before))
 
-read-requires : tie.Need-read-requires
-read-requires c κs = search rules
+read-fields-requires : tie.Need-read-fields-requires
+read-fields-requires c κs = search rules
 
 number-requires : tie.Need-number-requires
 number-requires c κs = search rules
@@ -83,82 +83,82 @@ number-requires c κs = search rules
 refused-requires : tie.Need-refused-requires
 refused-requires c κs = search rules
 
-returns : tie.Need-returns
-returns c =
+returns-then-number-ne0 : tie.Need-returns-then-number-ne0
+returns-then-number-ne0 c =
     let r = c.before.before.before in
-    let no : (told_of (fields r).answer).number ≡ 0 → ⊥ = λ z. c.before.if1.true (c.before.before.number.ensures ∙ z) in
-    taken_refused (bytes r) (fields r).answer (told_broken (bytes r) r.read.ensures.told no) (counted r) c.refused.ensures no
+    let no : (told_of (fields r).answer).number ≡ 0 → ⊥ = λ z. c.before.if-number-ne0.true (c.before.before.number.ensures ∙ z) in
+    taken_refused (bytes r) (fields r).answer (told_broken (bytes r) r.read-fields.ensures.told no) (counted r) c.refused.ensures no
 
-array-share-prefix-writes : tie.Need-array-share-prefix-writes
-array-share-prefix-writes c =
+slice_bounds-writes-end : tie.Need-slice_bounds-writes-end
+slice_bounds-writes-end c =
     let r = read_of c.before in
-    writes_within (fields_in (bytes r)).writes (fields r).writes (fields r).write_count r.read.ensures.writes r.read.ensures.count
+    writes_within (fields_in (bytes r)).writes-1 (fields r).writes-1 (fields r).write_count r.read-fields.ensures.writes r.read-fields.ensures.count
 
-slice-aggregate-play : tie.Need-slice-aggregate-play
-slice-aggregate-play c =
+slice_bounds-play-end : tie.Need-slice_bounds-play-end
+slice_bounds-play-end c =
     let r = read_of c.before.before in
-    r.read.ensures.count ∙ sym (ap length (listed r))
+    r.read-fields.ensures.count ∙ sym (ap length (listed r))
 
-play-requires : tie.Need-play-requires
-play-requires c κs = search rules
+play-played-requires : tie.Need-play-played-requires
+play-played-requires c κs = search rules
 
 number-requires-2 : tie.Need-number-requires-2
 number-requires-2 c κs = search rules
 
-refused-requires-2 : tie.Need-refused-requires-2
-refused-requires-2 c κs = search rules
+refused-requires-then-number-ne0-2 : tie.Need-refused-requires-then-number-ne0-2
+refused-requires-then-number-ne0-2 c κs = search rules
 
-returns-2 : tie.Need-returns-2
-returns-2 c =
+returns-then-number-ne0-2 : tie.Need-returns-then-number-ne0-2
+returns-then-number-ne0-2 c =
     let p = c.before.before.before in
     let w = whole_of p in
-    let no : (told_of p.play.result).number ≡ 0 → ⊥ = λ z. c.before.if2.true (c.before.before.number2.ensures ∙ z) in
-    taken_refused (bytes (read_of w)) p.play.result (told_elsewhere (bytes (read_of w)) (accepted-at w) (played-all p) no) (counted (read_of w)) c.refused2.ensures no
+    let no : (told_of p.play-played.result).number ≡ 0 → ⊥ = λ z. c.before.if-number-ne0-2.true (c.before.before.number-2.ensures ∙ z) in
+    taken_refused (bytes (read_of w)) p.play-played.result (told_elsewhere (bytes (read_of w)) (accepted-at w) (played-all p) no) (counted (read_of w)) c.refused-then-number-ne0-2.ensures no
 
 value-requires : tie.Need-value-requires
 value-requires c κs = search rules
 
-cast-t16 : tie.Need-overflow-cast-t16
-cast-t16 c = record { fits = (word-is c).1 }
+overflow_cast-settings : tie.Need-overflow_cast-settings
+overflow_cast-settings c = record { fits = (word-is c).1 }
 
-settings-answer-requires : tie.Need-settings-answer-requires
-settings-answer-requires c κs = search rules
+settings_answer-answer-requires : tie.Need-settings_answer-answer-requires
+settings_answer-answer-requires c κs = search rules
 
 number-requires-3 : tie.Need-number-requires-3
 number-requires-3 c κs = search rules
 
-refused-requires-3 : tie.Need-refused-requires-3
-refused-requires-3 c κs = search rules
+refused-requires-then-number-ne0-3 : tie.Need-refused-requires-then-number-ne0-3
+refused-requires-then-number-ne0-3 c κs = search rules
 
-returns-3 : tie.Need-returns-3
-returns-3 c =
+returns-then-number-ne0-3 : tie.Need-returns-then-number-ne0-3
+returns-then-number-ne0-3 c =
     let a = c.before.before.before in
-    taken_refused (bytes (sheet-of a.before)) a.settings-answer.result (judged a) (counted (sheet-of a.before)) c.refused3.ensures
-    (λ z. c.before.if3.true (c.before.before.number3.ensures ∙ z))
+    taken_refused (bytes (sheet-of a.before)) a.settings_answer-answer.result (judged a) (counted (sheet-of a.before)) c.refused-then-number-ne0-3.ensures
+    (λ z. c.before.if-number-ne0-3.true (c.before.before.number-3.ensures ∙ z))
 
-returns-4 : tie.Need-returns-4
+returns-4 : tie.Need-returns
 returns-4 c =
     let a = c.before.before in
-    taken_done (bytes (sheet-of a.before)) a.settings-answer.result (judged a) (counted (sheet-of a.before)) (refl, settings-are a.before, refl) (sym c.before.number3.ensures ∙ c.if3.false)
+    taken_done (bytes (sheet-of a.before)) a.settings_answer-answer.result (judged a) (counted (sheet-of a.before)) (refl, settings-are a.before, refl) (sym c.before.number-3.ensures ∙ c.if-number-ne0-3.false)
 
-pub settings-of-spec : {M : Type 1} → statement M
-settings-of-spec =
+pub settings_of_spec : {M : Type 1} → statement M
+settings_of_spec =
     tie.close
     (tie.spec
-    read-requires
+    read-fields-requires
     number-requires
     refused-requires
-    returns
-    array-share-prefix-writes
-    slice-aggregate-play
-    play-requires
+    returns-then-number-ne0
+    slice_bounds-writes-end
+    slice_bounds-play-end
+    play-played-requires
     number-requires-2
-    refused-requires-2
-    returns-2
+    refused-requires-then-number-ne0-2
+    returns-then-number-ne0-2
     value-requires
-    cast-t16
-    settings-answer-requires
+    overflow_cast-settings
+    settings_answer-answer-requires
     number-requires-3
-    refused-requires-3
-    returns-3
+    refused-requires-then-number-ne0-3
+    returns-then-number-ne0-3
     returns-4)

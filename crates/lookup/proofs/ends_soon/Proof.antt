@@ -12,50 +12,50 @@ use Rattle.lookup.proofs.Lines.{end_start, end_next}
 use Rattle.lookup.proofs.ends_soon.Statement.{statement}
 use Rattle.lookup.proofs.ends_soon.Tie as tie
 
-abbrev invariant-loop : tie.invariant-loop
+abbrev invariant-loop : tie.invariant-loop-t
 invariant-loop s at soon₀ t₀ soon t = (t ≤ 16) × (soon ≡ false → to_line_end (drop at s) ≡ t + to_line_end (drop (at + t) s))
 
-abbrev decreases-loop : tie.decreases-loop
+abbrev decreases-loop : tie.decreases-loop-t
 decreases-loop s at soon₀ t₀ soon t = 16 - t
 
-loop-holds : tie.Need-loop-init invariant-loop decreases-loop
-loop-holds c = (omega arith, λ _. end_start c.args.s.now c.args.at)
+loop-t-init : tie.Need-loop-t-init invariant-loop decreases-loop
+loop-t-init c = (omega arith, λ _. end_start c.args.s.now c.args.at)
 
-add-soon : tie.Need-overflow-add-soon invariant-loop decreases-loop
-add-soon c = omega arith
+overflow_add-soon : tie.Need-overflow_add-soon invariant-loop decreases-loop
+overflow_add-soon c = omega arith
 
-shared-slice-read-soon : tie.Need-shared-slice-read-soon invariant-loop decreases-loop
-shared-slice-read-soon c = omega arith
+bounds-s-at : tie.Need-bounds-s-at invariant-loop decreases-loop
+bounds-s-at c = omega arith
 
-add-t : tie.Need-overflow-add-t invariant-loop decreases-loop
-add-t c = omega arith
+overflow_add-t : tie.Need-overflow_add-t invariant-loop decreases-loop
+overflow_add-t c = omega arith
 
-loop-less : tie.Need-loop-smaller invariant-loop decreases-loop
-loop-less c = omega arith
+loop-t-smaller : tie.Need-loop-t-smaller invariant-loop decreases-loop
+loop-t-smaller c = omega arith
 
-loop-again : tie.Need-loop-preserved invariant-loop decreases-loop
-loop-again c =
-    let l = c.before.before.loop in
+loop-t-preserved : tie.Need-loop-t-preserved invariant-loop decreases-loop
+loop-t-preserved c =
+    let l = c.before.before.loop-t in
     let a = c.before.before.before.args in
     (omega arith, λ e. let n = neither l.soon (eqb (get_or a.s.now (a.at + l.t) 0) 10) e in end_next a.s.now a.at l.t (omega arith) (eqb-false _ _ n.1) (l.invariant.1 n.0))
 
 returns : tie.Need-returns invariant-loop decreases-loop
 returns c =
-    let l = c.before.loop in
+    let l = c.before.loop-t in
     let a = c.before.before.args in
     let all : l.t ≡ 16 = omega arith in
     λ e. subst (λ (n : ℕ). to_line_end (drop a.at a.s.now) ≡ n + to_line_end (drop (a.at + n) a.s.now)) all (l.invariant.1 e)
 
-pub ends-soon-spec : {M : Type 1} → statement M
-ends-soon-spec =
+pub ends_soon_spec : {M : Type 1} → statement M
+ends_soon_spec =
     tie.close
     (tie.spec
     invariant-loop
     decreases-loop
-    loop-holds
-    add-soon
-    shared-slice-read-soon
-    add-t
-    loop-less
-    loop-again
+    loop-t-init
+    overflow_add-soon
+    bounds-s-at
+    overflow_add-t
+    loop-t-smaller
+    loop-t-preserved
     returns)

@@ -15,122 +15,122 @@ use Rattle.lookup.proofs.find.Statement.{statement}
 use Rattle.lookup.proofs.find.Tie as tie
 
 -- ---- the places on the way
-abbrev start_of : tie.After-struct-known → tie.Start
+abbrev start_of : tie.After-struct_known-1 → tie.Start
 start_of c = c.before.before.before.before.before
 
 -- where the record's sheet was surveyed, from where the cover was
-abbrev own_of : tie.After-struct-known2 → tie.After-struct-known
+abbrev own_of : tie.After-struct_known-2-1 → tie.After-struct_known-1
 own_of c = c.before.before.before
 
-abbrev begin-of : tie.After-struct-known2 → tie.Start
+abbrev begin-of : tie.After-struct_known-2-1 → tie.Start
 begin-of c = start_of (own_of c)
 
 -- ---- the two sheets
-own-whole : (c : tie.Else1) → WholeGiven (read_sheet (start_of c.before).args.«record».now) c.before.before.survey.result
-own-whole c = whole_given (read_sheet (start_of c.before).args.«record».now) c.before.before.survey.result c.before.before.survey.ensures (not-false _ c.if1.false)
+own-whole : (c : tie.Else-not-of_record) → WholeGiven (read_sheet (start_of c.before).args.«record».now) c.before.before.survey-of_record.result
+own-whole c = whole_given (read_sheet (start_of c.before).args.«record».now) c.before.before.survey-of_record.result c.before.before.survey-of_record.ensures (not-false _ c.if-not-of_record.false)
 
-cover-whole : (c : tie.Else2) → WholeGiven (read_sheet (begin-of c.before).args.cover.now) c.before.before.survey2.result
-cover-whole c = whole_given (read_sheet (begin-of c.before).args.cover.now) c.before.before.survey2.result c.before.before.survey2.ensures (not-false _ c.if2.false)
+cover-whole : (c : tie.Else-not-of_cover) → WholeGiven (read_sheet (begin-of c.before).args.cover.now) c.before.before.survey-of_cover.result
+cover-whole c = whole_given (read_sheet (begin-of c.before).args.cover.now) c.before.before.survey-of_cover.result c.before.before.survey-of_cover.ensures (not-false _ c.if-not-of_cover.false)
 
 -- whether the record's sheet has the key
-own-lacks : (c : tie.Else3) → has_key (begin-of c.before.before.before).args.«record».now (begin-of c.before.before.before).args.key.now ≡ false
-own-lacks c = sym (ap (λ (x : Found). x.found) c.before.seek.ensures) ∙ c.if3.false
+own-lacks : (c : tie.Else-here) → has_key (begin-of c.before.before.before).args.«record».now (begin-of c.before.before.before).args.key.now ≡ false
+own-lacks c = sym (ap (λ (x : Found). x.found) c.before.seek-here.ensures) ∙ c.if-here.false
 
-survey-requires : tie.Need-survey-requires
-survey-requires c κs = search rules
+survey-of_record-requires : tie.Need-survey-of_record-requires
+survey-of_record-requires c κs = search rules
 
 refused-requires : tie.Need-refused-requires
 refused-requires c κs = search rules
 
-returns : tie.Need-returns
-returns c =
+returns-then-not-of_record : tie.Need-returns-then-not-of_record
+returns-then-not-of_record c =
     let p = c.before.before in
     let a = (start_of p).args in
-    let g = broken_given (read_sheet a.«record».now) p.before.survey.result p.before.survey.ensures (not-true _ c.before.if1.true) in
+    let g = broken_given (read_sheet a.«record».now) p.before.survey-of_record.result p.before.survey-of_record.ensures (not-true _ c.before.if-not-of_record.true) in
     let e = broken_record a.«record».now a.cover.now a.key.now g.not_got in
     (ap told_of c.refused.ensures.0 ∙ ap (λ (t : Told). told 11 t.place 0) g.told_broken ∙ sym e.tells, c.refused.ensures.1 ∙ sym e.holds)
 
-survey-requires-2 : tie.Need-survey-requires-2
-survey-requires-2 c κs = search rules
+survey-of_cover-requires : tie.Need-survey-of_cover-requires
+survey-of_cover-requires c κs = search rules
 
-refused-requires-2 : tie.Need-refused-requires-2
-refused-requires-2 c κs = search rules
+refused-requires-then-not-of_cover : tie.Need-refused-requires-then-not-of_cover
+refused-requires-then-not-of_cover c κs = search rules
 
-returns-2 : tie.Need-returns-2
-returns-2 c =
+returns-then-not-of_cover : tie.Need-returns-then-not-of_cover
+returns-then-not-of_cover c =
     let p = c.before.before in
     let a = (begin-of p).args in
-    let g = broken_given (read_sheet a.cover.now) p.before.survey2.result p.before.survey2.ensures (not-true _ c.before.if2.true) in
+    let g = broken_given (read_sheet a.cover.now) p.before.survey-of_cover.result p.before.survey-of_cover.ensures (not-true _ c.before.if-not-of_cover.true) in
     let e = broken_cover a.«record».now a.cover.now a.key.now (own-whole p.before.before).is_got_lem g.not_got in
-    (ap told_of c.refused2.ensures.0 ∙ ap (λ (t : Told). told 11 t.place 0) g.told_broken ∙ sym e.tells, c.refused2.ensures.1 ∙ sym e.holds)
+    (ap told_of c.refused-then-not-of_cover.ensures.0 ∙ ap (λ (t : Told). told 11 t.place 0) g.told_broken ∙ sym e.tells, c.refused-then-not-of_cover.ensures.1 ∙ sym e.holds)
 
-seek-requires : tie.Need-seek-requires
-seek-requires c κs =
+seek-here-requires : tie.Need-seek-here-requires
+seek-here-requires c κs =
     let g = own-whole c.before.before.before in
     (g.is_got_lem, g.tail ∙ sym (tail_at (begin-of c.before).args.«record».now g.is_got_lem))
 
 taken-requires : tie.Need-taken-requires
 taken-requires c κs = search rules
 
-returns-3 : tie.Need-returns-3
-returns-3 c =
+returns-then-here : tie.Need-returns-then-here
+returns-then-here c =
     let k = c.before.before in
     let s = k.before in
     let a = (begin-of s.before).args in
-    let h : has_key a.«record».now a.key.now ≡ true = sym (ap (λ (x : Found). x.found) k.seek.ensures) ∙ c.before.if3.true in
+    let h : has_key a.«record».now a.key.now ≡ true = sym (ap (λ (x : Found). x.found) k.seek-here.ensures) ∙ c.before.if-here.true in
     let e = in_record a.«record».now a.cover.now a.key.now (own-whole s.before.before.before).is_got_lem (cover-whole s).is_got_lem h in (
       ap told_of c.taken.ensures.0 ∙ sym e.tells,
-      c.taken.ensures.1 ∙ found_piece false a.«record».now a.key.now k.seek.result k.seek.ensures ∙ sym e.holds,
+      c.taken.ensures.1 ∙ found_piece false a.«record».now a.key.now k.seek-here.result k.seek-here.ensures ∙ sym e.holds,
     )
 
-seek-requires-2 : tie.Need-seek-requires-2
-seek-requires-2 c κs =
+seek-there-requires : tie.Need-seek-there-requires
+seek-there-requires c κs =
     let g = cover-whole c.before.before in
     (g.is_got_lem, g.tail ∙ sym (tail_at (begin-of c.before.before.before).args.cover.now g.is_got_lem))
 
-taken-requires-2 : tie.Need-taken-requires-2
-taken-requires-2 c κs = search rules
+taken-requires-then-there : tie.Need-taken-requires-then-there
+taken-requires-then-there c κs = search rules
 
-returns-4 : tie.Need-returns-4
-returns-4 c =
+returns-then-there : tie.Need-returns-then-there
+returns-then-there c =
     let k = c.before.before in
     let q = k.before in
     let s = q.before.before in
     let a = (begin-of s.before).args in
-    let h : has_key a.cover.now a.key.now ≡ true = sym (ap (λ (x : Found). x.found) k.seek2.ensures) ∙ c.before.if4.true in
+    let h : has_key a.cover.now a.key.now ≡ true = sym (ap (λ (x : Found). x.found) k.seek-there.ensures) ∙ c.before.if-there.true in
     let e = in_cover a.«record».now a.cover.now a.key.now (own-whole s.before.before.before).is_got_lem (cover-whole s).is_got_lem (own-lacks q) h in (
-      ap told_of c.taken2.ensures.0 ∙ sym e.tells,
-      c.taken2.ensures.1 ∙ found_piece true a.cover.now a.key.now k.seek2.result k.seek2.ensures ∙ sym e.holds,
+      ap told_of c.taken-then-there.ensures.0 ∙ sym e.tells,
+      c.taken-then-there.ensures.1 ∙ found_piece true a.cover.now a.key.now k.seek-there.result k.seek-there.ensures ∙ sym e.holds,
     )
 
-refused-requires-3 : tie.Need-refused-requires-3
+refused-requires-3 : tie.Need-refused-requires-2
 refused-requires-3 c κs = search rules
 
-returns-5 : tie.Need-returns-5
+returns-5 : tie.Need-returns
 returns-5 c =
     let l = c.before in
     let q = l.before.before in
     let s = q.before.before in
     let a = (begin-of s.before).args in
-    let h : has_key a.cover.now a.key.now ≡ false = sym (ap (λ (x : Found). x.found) l.before.seek2.ensures) ∙ l.if4.false in
+    let h : has_key a.cover.now a.key.now ≡ false = sym (ap (λ (x : Found). x.found) l.before.seek-there.ensures) ∙ l.if-there.false in
     let e = in_neither a.«record».now a.cover.now a.key.now (own-whole s.before.before.before).is_got_lem (cover-whole s).is_got_lem (own-lacks q) h in
-    (ap told_of c.refused3.ensures.0 ∙ sym e.tells, c.refused3.ensures.1 ∙ sym e.holds)
+    (ap told_of c.refused-2.ensures.0 ∙ sym e.tells, c.refused-2.ensures.1 ∙ sym e.holds)
 
 pub find_spec : {M : Type 1} → statement M
 find_spec =
     tie.close
     (tie.spec
-    survey-requires
+    survey-of_record-requires
     refused-requires
-    returns
-    survey-requires-2
-    refused-requires-2
-    returns-2
-    seek-requires
+    returns-then-not-of_record
+    survey-of_cover-requires
+    refused-requires-then-not-of_cover
+    returns-then-not-of_cover
+    seek-here-requires
     taken-requires
-    returns-3
-    seek-requires-2
-    taken-requires-2
-    returns-4
+    returns-then-here
+    seek-there-requires
+    taken-requires-then-there
+    returns-then-there
     refused-requires-3
     returns-5)

@@ -8,55 +8,55 @@ use Rattle.lookup.proofs.Lines.{end_here, end_more, end_past}
 use Rattle.lookup.proofs.line_end.Statement.{statement}
 use Rattle.lookup.proofs.line_end.Tie as tie
 
-abbrev invariant-loop : tie.invariant-loop
+abbrev invariant-loop : tie.invariant-loop-i
 invariant-loop s at i₀ i = (i ≤ length s) × (i + to_line_end (drop i s) ≡ at + to_line_end (drop at s))
 
-abbrev decreases-loop : tie.decreases-loop
+abbrev decreases-loop : tie.decreases-loop-i
 decreases-loop s at i₀ i = length s - i
 
 -- what is lent, from where the line goes on
-abbrev start_of : tie.At-loop invariant-loop decreases-loop → tie.Start invariant-loop decreases-loop
+abbrev start_of : tie.At-loop-i invariant-loop decreases-loop → tie.Start invariant-loop decreases-loop
 start_of c = c.before.before.before
 
-near-end-requires : tie.Need-near-end-requires invariant-loop decreases-loop
-near-end-requires c κs = omega arith
+near_end-i-requires : tie.Need-near_end-i-requires invariant-loop decreases-loop
+near_end-i-requires c κs = omega arith
 
-loop-holds : tie.Need-loop-init invariant-loop decreases-loop
-loop-holds c = c.near-end.ensures
+loop-i-init : tie.Need-loop-i-init invariant-loop decreases-loop
+loop-i-init c = c.near_end-i.ensures
 
-shared-slice-read-if1 : tie.Need-shared-slice-read-if1 invariant-loop decreases-loop
-shared-slice-read-if1 c = omega arith
+bounds-s-i : tie.Need-bounds-s-i invariant-loop decreases-loop
+bounds-s-i c = omega arith
 
-returns : tie.Need-returns invariant-loop decreases-loop
-returns c =
+returns-then-s-i-eq10 : tie.Need-returns-then-s-i-eq10 invariant-loop decreases-loop
+returns-then-s-i-eq10 c =
     let l = c.before.before.before in
-    omega (arith, l.loop.invariant.1, end_here (start_of l).args.s.now l.loop.i (omega arith) c.if1.true)
+    omega (arith, l.loop-i.invariant.1, end_here (start_of l).args.s.now l.loop-i.i (omega arith) c.if-s-i-eq10.true)
 
-add-i : tie.Need-overflow-add-i invariant-loop decreases-loop
-add-i c = omega arith
+overflow_add-i : tie.Need-overflow_add-i invariant-loop decreases-loop
+overflow_add-i c = omega arith
 
-loop-less : tie.Need-loop-smaller invariant-loop decreases-loop
-loop-less c = omega arith
+loop-i-smaller : tie.Need-loop-i-smaller invariant-loop decreases-loop
+loop-i-smaller c = omega arith
 
-loop-again : tie.Need-loop-preserved invariant-loop decreases-loop
-loop-again c =
+loop-i-preserved : tie.Need-loop-i-preserved invariant-loop decreases-loop
+loop-i-preserved c =
     let l = c.before.before.before in
-    (omega arith, omega (arith, l.loop.invariant.1, end_more (start_of l).args.s.now l.loop.i (omega arith) c.if1.false))
+    (omega arith, omega (arith, l.loop-i.invariant.1, end_more (start_of l).args.s.now l.loop-i.i (omega arith) c.if-s-i-eq10.false))
 
-returns-2 : tie.Need-returns-2 invariant-loop decreases-loop
-returns-2 c = let l = c.before in omega (arith, l.loop.invariant.1, end_past (start_of l).args.s.now l.loop.i (omega arith))
+returns-2 : tie.Need-returns invariant-loop decreases-loop
+returns-2 c = let l = c.before in omega (arith, l.loop-i.invariant.1, end_past (start_of l).args.s.now l.loop-i.i (omega arith))
 
-pub line-end-spec : {M : Type 1} → statement M
-line-end-spec =
+pub line_end_spec : {M : Type 1} → statement M
+line_end_spec =
     tie.close
     (tie.spec
     invariant-loop
     decreases-loop
-    near-end-requires
-    loop-holds
-    shared-slice-read-if1
-    returns
-    add-i
-    loop-less
-    loop-again
+    near_end-i-requires
+    loop-i-init
+    bounds-s-i
+    returns-then-s-i-eq10
+    overflow_add-i
+    loop-i-smaller
+    loop-i-preserved
     returns-2)

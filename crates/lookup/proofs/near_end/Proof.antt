@@ -7,47 +7,47 @@ use Rattle.lookup.specs.Steps.{to_line_end}
 use Rattle.lookup.proofs.near_end.Statement.{statement}
 use Rattle.lookup.proofs.near_end.Tie as tie
 
-abbrev invariant-loop : tie.invariant-loop
+abbrev invariant-loop : tie.invariant-loop-i
 invariant-loop s at i₀ i = (i ≤ length s) × (i + to_line_end (drop i s) ≡ at + to_line_end (drop at s))
 
-abbrev decreases-loop : tie.decreases-loop
+abbrev decreases-loop : tie.decreases-loop-i
 decreases-loop s at i₀ i = length s - i
 
-loop-holds : tie.Need-loop-init invariant-loop decreases-loop
-loop-holds c = (omega arith, omega arith)
+loop-i-init : tie.Need-loop-i-init invariant-loop decreases-loop
+loop-i-init c = (omega arith, omega arith)
 
-sub-loop : tie.Need-overflow-sub-loop invariant-loop decreases-loop
-sub-loop c = omega arith
+overflow_sub-s : tie.Need-overflow_sub-s invariant-loop decreases-loop
+overflow_sub-s c = omega arith
 
-ends-soon-requires : tie.Need-ends-soon-requires invariant-loop decreases-loop
-ends-soon-requires c κs = omega arith
+ends_soon-requires : tie.Need-ends_soon-requires invariant-loop decreases-loop
+ends_soon-requires c κs = omega arith
 
-returns : tie.Need-returns invariant-loop decreases-loop
-returns c = c.before.before.before.loop.invariant
+returns-then-ends_soon : tie.Need-returns-then-ends_soon invariant-loop decreases-loop
+returns-then-ends_soon c = c.before.before.before.loop-i.invariant
 
-add-i : tie.Need-overflow-add-i invariant-loop decreases-loop
-add-i c = omega arith
+overflow_add-i : tie.Need-overflow_add-i invariant-loop decreases-loop
+overflow_add-i c = omega arith
 
-loop-less : tie.Need-loop-smaller invariant-loop decreases-loop
-loop-less c = omega arith
+loop-i-smaller : tie.Need-loop-i-smaller invariant-loop decreases-loop
+loop-i-smaller c = omega arith
 
-loop-again : tie.Need-loop-preserved invariant-loop decreases-loop
-loop-again c = (omega arith, omega (arith, c.before.before.before.loop.invariant.1, c.before.ends-soon.ensures c.if1.false))
+loop-i-preserved : tie.Need-loop-i-preserved invariant-loop decreases-loop
+loop-i-preserved c = (omega arith, omega (arith, c.before.before.before.loop-i.invariant.1, c.before.ends_soon.ensures c.if-ends_soon.false))
 
-returns-2 : tie.Need-returns-2 invariant-loop decreases-loop
-returns-2 c = c.before.loop.invariant
+returns-2 : tie.Need-returns invariant-loop decreases-loop
+returns-2 c = c.before.loop-i.invariant
 
-pub near-end-spec : {M : Type 1} → statement M
-near-end-spec =
+pub near_end_spec : {M : Type 1} → statement M
+near_end_spec =
     tie.close
     (tie.spec
     invariant-loop
     decreases-loop
-    loop-holds
-    sub-loop
-    ends-soon-requires
-    returns
-    add-i
-    loop-less
-    loop-again
+    loop-i-init
+    overflow_sub-s
+    ends_soon-requires
+    returns-then-ends_soon
+    overflow_add-i
+    loop-i-smaller
+    loop-i-preserved
     returns-2)

@@ -9,75 +9,75 @@ use Rattle.lookup.proofs.Seeks.{Passed, nothing_passed, Here, line_here, none_le
 use Rattle.lookup.proofs.seek.Statement.{statement}
 use Rattle.lookup.proofs.seek.Tie as tie
 
-abbrev invariant-loop : tie.invariant-loop
+abbrev invariant-loop : tie.invariant-loop-at
 invariant-loop s from key at₀ at = Passed s key at
 
-abbrev decreases-loop : tie.decreases-loop
+abbrev decreases-loop : tie.decreases-loop-at
 decreases-loop s from key at₀ at = length s - at
 
 -- the line of this turn
-this : (c : tie.In-loop invariant-loop decreases-loop) → Here c.before.before.before.before.args.s.now c.before.before.before.before.args.key.now c.before.loop.at
+this : (c : tie.In-loop-at invariant-loop decreases-loop) → Here c.before.before.before.before.args.s.now c.before.before.before.before.args.key.now c.before.loop-at.at
 this c =
     let e = c.before.before.before.before in
-    line_here e.args.s.now e.args.key.now e.requires.0 c.before.loop.at c.before.loop.invariant (omega arith)
+    line_here e.args.s.now e.args.key.now e.requires.0 c.before.loop-at.at c.before.loop-at.invariant (omega arith)
 
 -- where it ends
-end_of : (c : tie.After-line-end invariant-loop decreases-loop) → c.line_end.result ≡ c.before.before.loop.at + (this c.before).size
-end_of c = c.line_end.ensures ∙ ap (λ (n : ℕ). c.before.before.loop.at + n) (this c.before).ends
+end_of : (c : tie.After-line_end-end invariant-loop decreases-loop) → c.line_end-end.result ≡ c.before.before.loop-at.at + (this c.before).size
+end_of c = c.line_end-end.ensures ∙ ap (λ (n : ℕ). c.before.before.loop-at.at + n) (this c.before).ends
 
 -- where it has the key
-keyed : (c : tie.Then1 invariant-loop decreases-loop) → keyed_by c.before.before.before.before.before.before.before.args.key.now (drop c.before.before.before.before.loop.at c.before.before.before.before.before.before.before.args.s.now) ≡ true
-keyed c = sym c.before.has_key_lem.ensures ∙ c.if1.true
+keyed : (c : tie.Then-has_key invariant-loop decreases-loop) → keyed_by c.before.before.before.before.before.before.before.args.key.now (drop c.before.before.before.before.loop-at.at c.before.before.before.before.before.before.before.args.s.now) ≡ true
+keyed c = sym c.before.has_key_lem.ensures ∙ c.if-has_key.true
 
-loop-holds : tie.Need-loop-init invariant-loop decreases-loop
-loop-holds c = let e = c.before.before in nothing_passed e.args.s.now e.args.key.now e.args.from e.requires.1
+loop-at-init : tie.Need-loop-at-init invariant-loop decreases-loop
+loop-at-init c = let e = c.before.before in nothing_passed e.args.s.now e.args.key.now e.args.from e.requires.1
 
-line-end-requires : tie.Need-line-end-requires invariant-loop decreases-loop
-line-end-requires c κs = omega arith
+line_end-end-requires : tie.Need-line_end-end-requires invariant-loop decreases-loop
+line_end-end-requires c κs = omega arith
 
-has-key-requires : tie.Need-has-key-requires invariant-loop decreases-loop
-has-key-requires c κs = omega arith
+has_key-requires : tie.Need-has_key-requires invariant-loop decreases-loop
+has_key-requires c κs = omega arith
 
-add-value-at : tie.Need-overflow-add-value-at invariant-loop decreases-loop
-add-value-at c = let t = this c.before.before.before in omega (arith, t.within, t.long (keyed c))
+overflow_add-value_at : tie.Need-overflow_add-value_at invariant-loop decreases-loop
+overflow_add-value_at c = let t = this c.before.before.before in omega (arith, t.within, t.long (keyed c))
 
-add-value-at-2 : tie.Need-overflow-add-value-at-2 invariant-loop decreases-loop
-add-value-at-2 c = let t = this c.before.before.before in omega (arith, t.within, t.long (keyed c))
+overflow_add-value_at-then-has_key : tie.Need-overflow_add-value_at-then-has_key invariant-loop decreases-loop
+overflow_add-value_at-then-has_key c = let t = this c.before.before.before in omega (arith, t.within, t.long (keyed c))
 
-sub-t10 : tie.Need-overflow-sub-t10 invariant-loop decreases-loop
-sub-t10 c = let t = this c.before.before.before in omega (arith, t.long (keyed c), end_of c.before.before)
+overflow_sub-result : tie.Need-overflow_sub-result invariant-loop decreases-loop
+overflow_sub-result c = let t = this c.before.before.before in omega (arith, t.long (keyed c), end_of c.before.before)
 
-returns : tie.Need-returns invariant-loop decreases-loop
-returns c = (this c.before.before.before).found c.before.before.line_end.result (end_of c.before.before) (keyed c)
+returns-then-has_key : tie.Need-returns-then-has_key invariant-loop decreases-loop
+returns-then-has_key c = (this c.before.before.before).found c.before.before.line_end-end.result (end_of c.before.before) (keyed c)
 
-add_at : tie.Need-overflow-add-at invariant-loop decreases-loop
-add_at c = omega (arith, (this c.before.before.before).within, end_of c.before.before)
+overflow_add-at : tie.Need-overflow_add-at invariant-loop decreases-loop
+overflow_add-at c = omega (arith, (this c.before.before.before).within, end_of c.before.before)
 
-loop-less : tie.Need-loop-smaller invariant-loop decreases-loop
-loop-less c = omega (arith, end_of c.before.before)
+loop-at-smaller : tie.Need-loop-at-smaller invariant-loop decreases-loop
+loop-at-smaller c = omega (arith, end_of c.before.before)
 
-loop-again : tie.Need-loop-preserved invariant-loop decreases-loop
-loop-again c = (this c.before.before.before).missed c.before.before.line_end.result (end_of c.before.before) (sym c.before.has_key_lem.ensures ∙ c.if1.false)
+loop-at-preserved : tie.Need-loop-at-preserved invariant-loop decreases-loop
+loop-at-preserved c = (this c.before.before.before).missed c.before.before.line_end-end.result (end_of c.before.before) (sym c.before.has_key_lem.ensures ∙ c.if-has_key.false)
 
-returns-2 : tie.Need-returns-2 invariant-loop decreases-loop
+returns-2 : tie.Need-returns invariant-loop decreases-loop
 returns-2 c =
     let e = c.before.before.before.before in
-    none_left e.args.s.now e.args.key.now e.requires.0 c.before.loop.at c.before.loop.invariant (omega arith)
+    none_left e.args.s.now e.args.key.now e.requires.0 c.before.loop-at.at c.before.loop-at.invariant (omega arith)
 
-pub seek-spec : {M : Type 1} → statement M
-seek-spec =
+pub seek_spec : {M : Type 1} → statement M
+seek_spec =
     tie.close
     (tie.spec
     invariant-loop
     decreases-loop
-    loop-holds
-    line-end-requires
-    has-key-requires
-    add-value-at
-    add-value-at-2
-    sub-t10
-    returns
-    add_at
-    loop-less
-    loop-again
+    loop-at-init
+    line_end-end-requires
+    has_key-requires
+    overflow_add-value_at
+    overflow_add-value_at-then-has_key
+    overflow_sub-result
+    returns-then-has_key
+    overflow_add-at
+    loop-at-smaller
+    loop-at-preserved
     returns-2)

@@ -12,67 +12,67 @@ use Rattle.lookup.proofs.value.Statement.{statement}
 use Rattle.lookup.proofs.value.Tie as tie
 
 -- where what is lent stands, from where it is searched
-abbrev start_of : tie.After-struct-known → tie.Start
+abbrev start_of : tie.After-struct_known-1 → tie.Start
 start_of c = c.before.before.before.before.before
 
 -- the value lies within its sheet, the cover or not
-within : (c : tie.After-struct-known) (b : Bool) → c.before.find.result.piece.in_cover ≡ b → c.before.find.result.piece.from + c.before.find.result.piece.size ≤ length (choose b (start_of c).args.cover.now (start_of c).args.«record».now)
-within c b h = let a = (start_of c).args in inside a.«record» a.cover a.key.now c.before.find.result.piece c.before.find.ensures.1 b h
+within : (c : tie.After-struct_known-1) (b : Bool) → c.before.find-found.result.piece.in_cover ≡ b → c.before.find-found.result.piece.from + c.before.find-found.result.piece.size ≤ length (choose b (start_of c).args.cover.now (start_of c).args.«record».now)
+within c b h = let a = (start_of c).args in inside a.«record» a.cover a.key.now c.before.find-found.result.piece c.before.find-found.ensures.1 b h
 
-find-requires : tie.Need-find-requires
-find-requires c κs = search rules
+find-found-requires : tie.Need-find-found-requires
+find-found-requires c κs = search rules
 
-add-end : tie.Need-overflow-add-end
-add-end c =
-    by_test c.before.find.result.piece.in_cover
-    (λ (h : c.before.find.result.piece.in_cover ≡ true). omega (arith, within c true h))
-    (λ (h : c.before.find.result.piece.in_cover ≡ false). omega (arith, within c false h))
+overflow_add-end : tie.Need-overflow_add-end
+overflow_add-end c =
+    by_test c.before.find-found.result.piece.in_cover
+    (λ (h : c.before.find-found.result.piece.in_cover ≡ true). omega (arith, within c true h))
+    (λ (h : c.before.find-found.result.piece.in_cover ≡ false). omega (arith, within c false h))
 
-sub-result : tie.Need-overflow-sub-result
-sub-result c = omega arith
+slice_bounds-result-count : tie.Need-slice_bounds-result-count
+slice_bounds-result-count c = omega arith
 
-part-result-start : tie.Need-slice-bounds-result-start
-part-result-start c = search rules
+slice_bounds-result-start : tie.Need-slice_bounds-result-start
+slice_bounds-result-start c = search rules
 
-part-result-end : tie.Need-slice-bounds-result-end
-part-result-end c = within c.before true c.if1.true
+slice_bounds-result-end : tie.Need-slice_bounds-result-end
+slice_bounds-result-end c = within c.before true c.if-found.true
 
-returns : tie.Need-returns
-returns c =
+returns-then-found : tie.Need-returns-then-found
+returns-then-found c =
     let p = c.before.before in
-    let r = p.before.find in
+    let r = p.before.find-found in
     let a = (start_of p).args in
-    let z : r.result.piece.from + r.result.piece.size - r.result.piece.from ≡ r.result.piece.size = omega arith in
-    promised a.«record» a.cover a.key.now r.result.piece r.ensures.1 true c.before.if1.true (r.result.piece.from + r.result.piece.size - r.result.piece.from) _ z (record { bytes = refl; block = refl; offset = refl })
+    let z : r.result-1.piece.from + r.result-1.piece.size - r.result-1.piece.from ≡ r.result-1.piece.size = omega arith in
+    promised a.«record» a.cover a.key.now r.result-1.piece r.ensures.1 true c.before.if-found.true (r.result-1.piece.from + r.result-1.piece.size - r.result-1.piece.from) _ z (record { bytes = refl; block = refl; offset = refl })
 
-sub-result-2 : tie.Need-overflow-sub-result-2
-sub-result-2 c = omega arith
+slice_bounds-result-count-2 : tie.Need-slice_bounds-result-count-2
+slice_bounds-result-count-2 c = omega arith
 
-part-result-start-2 : tie.Need-slice-bounds-result-start-2
-part-result-start-2 c = search rules
+slice_bounds-result-start-2 : tie.Need-slice_bounds-result-start-2
+slice_bounds-result-start-2 c = search rules
 
-part-result-end-2 : tie.Need-slice-bounds-result-end-2
-part-result-end-2 c = within c.before false c.if1.false
+slice_bounds-result-end-2 : tie.Need-slice_bounds-result-end-2
+slice_bounds-result-end-2 c = within c.before false c.if-found.false
 
-returns-2 : tie.Need-returns-2
+returns-2 : tie.Need-returns
 returns-2 c =
     let p = c.before.before in
-    let r = p.before.find in
+    let r = p.before.find-found in
     let a = (start_of p).args in
-    let z : r.result.piece.from + r.result.piece.size - r.result.piece.from ≡ r.result.piece.size = omega arith in
-    promised a.«record» a.cover a.key.now r.result.piece r.ensures.1 false c.before.if1.false (r.result.piece.from + r.result.piece.size - r.result.piece.from) _ z (record { bytes = refl; block = refl; offset = refl })
+    let z : r.result-1.piece.from + r.result-1.piece.size - r.result-1.piece.from ≡ r.result-1.piece.size = omega arith in
+    promised a.«record» a.cover a.key.now r.result-1.piece r.ensures.1 false c.before.if-found.false (r.result-1.piece.from + r.result-1.piece.size - r.result-1.piece.from) _ z (record { bytes = refl; block = refl; offset = refl })
 
 pub value_spec : {M : Type 1} → statement M
 value_spec =
     tie.close
     (tie.spec
-    find-requires
-    add-end
-    sub-result
-    part-result-start
-    part-result-end
-    returns
-    sub-result-2
-    part-result-start-2
-    part-result-end-2
+    find-found-requires
+    overflow_add-end
+    slice_bounds-result-count
+    slice_bounds-result-start
+    slice_bounds-result-end
+    returns-then-found
+    slice_bounds-result-count-2
+    slice_bounds-result-start-2
+    slice_bounds-result-end-2
     returns-2)

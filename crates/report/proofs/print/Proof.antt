@@ -4,39 +4,35 @@ use borrow.Author.Rules.{rules}
 use Rattle.report.proofs.print.Statement.{statement}
 use Rattle.report.proofs.print.Tie as tie
 
-report-requires : tie.Need-report-requires
-report-requires c κs = search rules
+report-text-requires : tie.Need-report-text-requires
+report-text-requires c κs = search rules
 
-array-share-prefix-bytes : tie.Need-array-share-prefix-bytes
-array-share-prefix-bytes c = text_within _ _ c.before.report.result c.before.report.ensures
+slice_bounds-bytes-end : tie.Need-slice_bounds-bytes-end
+slice_bounds-bytes-end c = text_within _ _ c.before.report-text.result c.before.report-text.ensures
 
-slice-aggregate-write-all : tie.Need-slice-aggregate-write-all
-slice-aggregate-write-all c = text_held _ _ c.before.before.report.result c.before.before.report.ensures
+slice_bounds-write_all-end : tie.Need-slice_bounds-write_all-end
+slice_bounds-write_all-end c = text_held _ _ c.before.before.report-text.result c.before.before.report-text.ensures
 
-write-all-requires : tie.Need-write-all-requires
-write-all-requires c κs = search rules
+write_all-requires : tie.Need-write_all-requires
+write_all-requires c κs = search rules
 
-slice-aggregate-write-all-2 : tie.Need-slice-aggregate-write-all-2
-slice-aggregate-write-all-2 c = search rules
+write_all-requires-then-not-write_all : tie.Need-write_all-requires-then-not-write_all
+write_all-requires-then-not-write_all c κs = search rules
 
-write-all-requires-2 : tie.Need-write-all-requires-2
-write-all-requires-2 c κs = search rules
+returns-then-not-write_all : tie.Need-returns-then-not-write_all
+returns-then-not-write_all c = search rules
 
-returns : tie.Need-returns
-returns c = search rules
+returns-else-not-write_all : tie.Need-returns-else-not-write_all
+returns-else-not-write_all c = search rules
 
-returns-2 : tie.Need-returns-2
-returns-2 c = search rules
-
-pub print-spec : {M : Type 1} → statement M
-print-spec =
+pub print_spec : {M : Type 1} → statement M
+print_spec =
     tie.close
     (tie.spec
-    report-requires
-    array-share-prefix-bytes
-    slice-aggregate-write-all
-    write-all-requires
-    slice-aggregate-write-all-2
-    write-all-requires-2
-    returns
-    returns-2)
+    report-text-requires
+    slice_bounds-bytes-end
+    slice_bounds-write_all-end
+    write_all-requires
+    write_all-requires-then-not-write_all
+    returns-then-not-write_all
+    returns-else-not-write_all)

@@ -5,63 +5,63 @@ use Rattle.report_text.proofs.Decimals.{Found, none_found, one_more, last_one}
 use Rattle.report_text.proofs.decimal.Statement.{statement}
 use Rattle.report_text.proofs.decimal.Tie as tie
 
-abbrev invariant-loop : tie.invariant-loop
+abbrev invariant-loop : tie.invariant-loop-rest
 invariant-loop n bytes₀ from₀ rest₀ bytes from rest = Found n bytes from rest
 
-abbrev decreases-loop : tie.decreases-loop
+abbrev decreases-loop : tie.decreases-loop-rest
 decreases-loop n bytes₀ from₀ rest₀ bytes from rest = rest
 
-loop-holds : tie.Need-loop-init invariant-loop decreases-loop
-loop-holds c = none_found c.args.n c.ranges.n.fits
+loop-rest-init : tie.Need-loop-rest-init invariant-loop decreases-loop
+loop-rest-init c = none_found c.args.n c.ranges.n.fits
 
-sub-from : tie.Need-overflow-sub-from invariant-loop decreases-loop
-sub-from c = omega (arith, c.before.loop.invariant.some)
+overflow_sub-from : tie.Need-overflow_sub-from invariant-loop decreases-loop
+overflow_sub-from c = omega (arith, c.before.loop-rest.invariant.some)
 
-cast-bytes : tie.Need-overflow-cast-bytes invariant-loop decreases-loop
-cast-bytes c = omega arith
+overflow_cast-bytes : tie.Need-overflow_cast-bytes invariant-loop decreases-loop
+overflow_cast-bytes c = omega arith
 
-add-bytes : tie.Need-overflow-add-bytes invariant-loop decreases-loop
-add-bytes c = omega arith
+overflow_add-bytes : tie.Need-overflow_add-bytes invariant-loop decreases-loop
+overflow_add-bytes c = omega arith
 
-array-write-bytes : tie.Need-array-write-bytes invariant-loop decreases-loop
-array-write-bytes c = omega (arith, c.before.loop.invariant.some, c.before.loop.invariant.within)
+bounds-bytes-from : tie.Need-bounds-bytes-from invariant-loop decreases-loop
+bounds-bytes-from c = omega (arith, c.before.loop-rest.invariant.some, c.before.loop-rest.invariant.within)
 
-loop-less : tie.Need-loop-smaller invariant-loop decreases-loop
-loop-less c = omega arith
+loop-rest-smaller : tie.Need-loop-rest-smaller invariant-loop decreases-loop
+loop-rest-smaller c = omega arith
 
-loop-again : tie.Need-loop-preserved invariant-loop decreases-loop
-loop-again c = one_more _ c.loop-test.true c.before.loop.invariant
+loop-rest-preserved : tie.Need-loop-rest-preserved invariant-loop decreases-loop
+loop-rest-preserved c = one_more _ c.loop-rest-test.true c.before.loop-rest.invariant
 
-sub-from-2 : tie.Need-overflow-sub-from-2 invariant-loop decreases-loop
-sub-from-2 c = omega (arith, c.before.loop.invariant.some)
+overflow_sub-from-2 : tie.Need-overflow_sub-from-2 invariant-loop decreases-loop
+overflow_sub-from-2 c = omega (arith, c.before.loop-rest.invariant.some)
 
-cast-bytes-2 : tie.Need-overflow-cast-bytes-2 invariant-loop decreases-loop
-cast-bytes-2 c = omega arith
+overflow_cast-bytes-2 : tie.Need-overflow_cast-bytes-2 invariant-loop decreases-loop
+overflow_cast-bytes-2 c = omega arith
 
-add-bytes-2 : tie.Need-overflow-add-bytes-2 invariant-loop decreases-loop
-add-bytes-2 c = omega arith
+overflow_add-bytes-2 : tie.Need-overflow_add-bytes-2 invariant-loop decreases-loop
+overflow_add-bytes-2 c = omega arith
 
-array-write-bytes-2 : tie.Need-array-write-bytes-2 invariant-loop decreases-loop
-array-write-bytes-2 c = omega (arith, c.before.loop.invariant.some, c.before.loop.invariant.within)
+bounds-bytes-from-2 : tie.Need-bounds-bytes-from-2 invariant-loop decreases-loop
+bounds-bytes-from-2 c = omega (arith, c.before.loop-rest.invariant.some, c.before.loop-rest.invariant.within)
 
 returns : tie.Need-returns invariant-loop decreases-loop
-returns c = (last_one _ c.loop-test.false c.before.loop.invariant, omega (arith, c.before.loop.invariant.within), simp length-set c.before.loop.invariant.long)
+returns c = (last_one _ c.loop-rest-test.false c.before.loop-rest.invariant, omega (arith, c.before.loop-rest.invariant.within), simp length-set c.before.loop-rest.invariant.long)
 
-pub decimal-spec : {M : Type 1} → statement M
-decimal-spec =
+pub decimal_spec : {M : Type 1} → statement M
+decimal_spec =
     tie.close
     (tie.spec
     invariant-loop
     decreases-loop
-    loop-holds
-    sub-from
-    cast-bytes
-    add-bytes
-    array-write-bytes
-    loop-less
-    loop-again
-    sub-from-2
-    cast-bytes-2
-    add-bytes-2
-    array-write-bytes-2
+    loop-rest-init
+    overflow_sub-from
+    overflow_cast-bytes
+    overflow_add-bytes
+    bounds-bytes-from
+    loop-rest-smaller
+    loop-rest-preserved
+    overflow_sub-from-2
+    overflow_cast-bytes-2
+    overflow_add-bytes-2
+    bounds-bytes-from-2
     returns)

@@ -15,9 +15,6 @@ append-requires c κs = search rules
 append-requires-2 : tie.Need-append-requires-2
 append-requires-2 c κs = search rules
 
-slice-aggregate-append : tie.Need-slice-aggregate-append
-slice-aggregate-append c = search rules
-
 append-requires-3 : tie.Need-append-requires-3
 append-requires-3 c κs = search rules
 
@@ -25,11 +22,11 @@ returns : tie.Need-returns
 returns c =
     let a = c.before.before.before.before.before.before.args in
     let one = c.before.before.before.append.ensures.0 in
-    let two = grows (held a.text ++ a.word.now) a.value.now one c.before.before.append2.ensures.0 in
-    let three = grows ((held a.text ++ a.word.now) ++ a.value.now) nl two c.append3.ensures.0 in
-    (three ∙ ap text_of (simp append_assoc), (c.append3.ensures.1.0, omega arith))
+    let two = grows (held a.text ++ a.word.now) a.value.now one c.before.before.append-2.ensures.0 in
+    let three = grows ((held a.text ++ a.word.now) ++ a.value.now) nl two c.append-3.ensures.0 in
+    (three ∙ ap text_of (simp append_assoc), (c.append-3.ensures.1.0, omega arith))
 
-pub line-spec : {M : Type 1} → statement M
-line-spec =
+pub line_spec : {M : Type 1} → statement M
+line_spec =
     tie.close
-    (tie.spec append-requires append-requires-2 slice-aggregate-append append-requires-3 returns)
+    (tie.spec append-requires append-requires-2 append-requires-3 returns)

@@ -11,24 +11,24 @@ use borrow.Author.Rules.{rules}
 use Rattle.report_text.proofs.number_line.Statement.{statement}
 use Rattle.report_text.proofs.number_line.Tie as tie
 
-decimal-requires : tie.Need-decimal-requires
-decimal-requires c κs = search rules
+decimal-digits-requires : tie.Need-decimal-digits-requires
+decimal-digits-requires c κs = search rules
 
-sub-line : tie.Need-overflow-sub-line
-sub-line c = search rules
+slice_bounds-line-count : tie.Need-slice_bounds-line-count
+slice_bounds-line-count c = search rules
 
-part-line-start : tie.Need-slice-bounds-line-start
-part-line-start c = search rules
+slice_bounds-line-start : tie.Need-slice_bounds-line-start
+slice_bounds-line-start c = search rules
 
-part-line-end : tie.Need-slice-bounds-line-end
-part-line-end c = omega (arith, c.before.before.decimal.ensures.2)
+slice_bounds-line-end : tie.Need-slice_bounds-line-end
+slice_bounds-line-end c = omega (arith, c.before.before.decimal-digits.ensures.2)
 
 line-requires : tie.Need-line-requires
 line-requires c κs = search rules
 
 returns : tie.Need-returns
 returns c =
-    let d = c.before.before.before.before.decimal in
+    let d = c.before.before.before.before.decimal-digits in
     let a = c.before.before.before.before.before.before.args in
     let long : length (drop d.result.from d.result.bytes) ≡ 20 - d.result.from = length-drop d.result.from d.result.bytes ∙ ap (λ (n : ℕ). n - d.result.from) d.ensures.2 in
     let v : take (20 - d.result.from) (drop d.result.from d.result.bytes) ≡ decimal a.n = take_all (20 - d.result.from) (drop d.result.from d.result.bytes) (omega arith) ∙ d.ensures.0 in (
@@ -36,7 +36,7 @@ returns c =
       (c.line.ensures.1.0, omega (arith, length-take (20 - d.result.from) (drop d.result.from d.result.bytes))),
     )
 
-pub number-line-spec : {M : Type 1} → statement M
-number-line-spec =
+pub number_line_spec : {M : Type 1} → statement M
+number_line_spec =
     tie.close
-    (tie.spec decimal-requires sub-line part-line-start part-line-end line-requires returns)
+    (tie.spec decimal-digits-requires slice_bounds-line-count slice_bounds-line-start slice_bounds-line-end line-requires returns)

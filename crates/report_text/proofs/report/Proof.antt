@@ -8,16 +8,16 @@ use borrow.Author.Rules.{rules}
 use Rattle.report_text.proofs.report.Statement.{statement}
 use Rattle.report_text.proofs.report.Tie as tie
 
-settings-of-requires : tie.Need-settings-of-requires
-settings-of-requires c κs = search rules
+settings_of-taken-requires : tie.Need-settings_of-taken-requires
+settings_of-taken-requires c κs = search rules
 
-text-for-requires : tie.Need-text-for-requires
-text-for-requires c κs =
-    let taken = c.settings-of.ensures in
+text_for-requires : tie.Need-text_for-requires
+text_for-requires c κs =
+    let taken = c.settings_of-taken.ensures in
     (taken.annotations, λ e. taken.settings ∙ given_done c.before.before.args.sheet.now (ap (λ (t : Told). t.number) (sym taken.told) ∙ e))
 
 returns : tie.Need-returns
-returns c = c.text-for.ensures ∙ ap (λ (t : Told). text_of (text_for t c.before.before.before.args.sheet.now)) c.before.settings-of.ensures.told
+returns c = c.text_for.ensures ∙ ap (λ (t : Told). text_of (text_for t c.before.before.before.args.sheet.now)) c.before.settings_of-taken.ensures.told
 
-pub report-spec : {M : Type 1} → statement M
-report-spec = tie.close (tie.spec settings-of-requires text-for-requires returns)
+pub report_spec : {M : Type 1} → statement M
+report_spec = tie.close (tie.spec settings_of-taken-requires text_for-requires returns)

@@ -10,14 +10,11 @@ use borrow.Author.Rules.{rules}
 use Rattle.report_text.proofs.rule_line.Statement.{statement}
 use Rattle.report_text.proofs.rule_line.Tie as tie
 
-slice-aggregate-line : tie.Need-slice-aggregate-line
-slice-aggregate-line c = search rules
+rule_digit-requires : tie.Need-rule_digit-requires
+rule_digit-requires c κs = search rules
 
-rule-digit-requires : tie.Need-rule-digit-requires
-rule-digit-requires c κs = search rules
-
-slice-aggregate-line-2 : tie.Need-slice-aggregate-line-2
-slice-aggregate-line-2 c = search rules
+slice_bounds-line-end-2 : tie.Need-slice_bounds-line-end-2
+slice_bounds-line-end-2 c = search rules
 
 line-requires : tie.Need-line-requires
 line-requires c κs = search rules
@@ -26,16 +23,15 @@ returns : tie.Need-returns
 returns c =
     let d = c.before.before in
     let a = d.before.before in (
-      then_line (held a.args.text) (rule_word ++ eq) (rule_digit a.args.settings.rule ∷ []) a.requires.0 c.line.ensures.0 (ap (λ (b : ℕ). b ∷ []) d.rule-digit.ensures),
+      then_line (held a.args.text) (rule_word ++ eq) (rule_digit a.args.settings.rule ∷ []) a.requires.0 c.line.ensures.0 (ap (λ (b : ℕ). b ∷ []) d.rule_digit.ensures),
       (c.line.ensures.1.0, omega (arith, c.line.ensures.1.1)),
     )
 
-pub rule-line-spec : {M : Type 1} → statement M
-rule-line-spec =
+pub rule_line_spec : {M : Type 1} → statement M
+rule_line_spec =
     tie.close
     (tie.spec
-    slice-aggregate-line
-    rule-digit-requires
-    slice-aggregate-line-2
+    rule_digit-requires
+    slice_bounds-line-end-2
     line-requires
     returns)

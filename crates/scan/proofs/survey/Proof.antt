@@ -29,213 +29,205 @@ use Rattle.scan.proofs.survey.Statement.{statement}
 use Rattle.scan.proofs.survey.Tie as tie
 
 -- ---- the places after the deed's line, the pins, the rule with the number of writes, and the writes: each holds the one before
-abbrev deed-of : tie.Else2 → tie.Else1
+abbrev deed-of : tie.Else-not-pins → tie.Else-not-deed
 deed-of c = c.before.before.before.before
 
-abbrev pins-of : tie.Else3 → tie.Else2
+abbrev pins-of : tie.Else-not-ruled → tie.Else-not-pins
 pins-of c = c.before.before.before.before
 
-abbrev rule-of : tie.Else4 → tie.Else3
+abbrev rule-of : tie.Else-not-lines → tie.Else-not-ruled
 rule-of c = c.before.before.before.before
 
-abbrev writes-of : tie.Else5 → tie.Else4
+abbrev writes-of : tie.Else-not-notes → tie.Else-not-lines
 writes-of c = c.before.before.before.before
 
 -- the sheet, whose length is a number of the machine
-abbrev sheet : tie.Else1 → List ℕ
+abbrev sheet : tie.Else-not-deed → List ℕ
 sheet c = c.before.before.before.before.before.args.s.now
 
-short : (c : tie.Else1) → length (sheet c) < 2 ^ 64
-short c = let p : tie.After-shared-slice-known = c.before.before.before.before in omega arith
+short : (c : tie.Else-not-deed) → length (sheet c) < 2 ^ 64
+short c = let p : tie.After-shared_slice_known-1 = c.before.before.before.before in omega arith
 
 -- ---- what each line holds, and what is left after it
-deed_at : (c : tie.Else1) → Field (deed_word ++ eq) deed_byte 1 16 (sheet c) 0 c.before.before.keyed-line.result.size
+deed_at : (c : tie.Else-not-deed) → Field (deed_word ++ eq) deed_byte 1 16 (sheet c) 0 c.before.before.keyed_line-deed.result.size
 deed_at c =
-    let r = c.before.before.keyed-line in
-    field (deed_word ++ eq) deed_byte 1 16 45 refl refl (omega arith) (sheet c) 0 r.result r.ensures.0 (not-false _ c.if1.false)
+    let r = c.before.before.keyed_line-deed in
+    field (deed_word ++ eq) deed_byte 1 16 45 refl refl (omega arith) (sheet c) 0 r.result r.ensures.0 (not-false _ c.if-not-deed.false)
 
-abbrev after-deed : tie.Else1 → Rest read_sheet read_from_pins
+abbrev after-deed : tie.Else-not-deed → Rest read_sheet read_from_pins
 after-deed c = first_passes to_fields read_deed (λ _. read_from_pins) (sheet c) (deed_at c).here
 
-pins-at : (c : tie.Else2) → HexField (pins_word ++ eq) 2 (sheet (deed-of c)) (after-deed (deed-of c)).at c.before.before.keyed-line2.result.size
+pins-at : (c : tie.Else-not-pins) → HexField (pins_word ++ eq) 2 (sheet (deed-of c)) (after-deed (deed-of c)).at c.before.before.keyed_line-pins.result.size
 pins-at c =
-    let r = c.before.before.keyed-line2 in
-    hex_field (pins_word ++ eq) 2 (sheet (deed-of c)) (after-deed (deed-of c)).at r.result r.ensures.0 (not-false _ c.if2.false)
+    let r = c.before.before.keyed_line-pins in
+    hex_field (pins_word ++ eq) 2 (sheet (deed-of c)) (after-deed (deed-of c)).at r.result r.ensures.0 (not-false _ c.if-not-pins.false)
 
-abbrev after-pins : tie.Else2 → Rest read_sheet read_from_rule
+abbrev after-pins : tie.Else-not-pins → Rest read_sheet read_from_rule
 after-pins c = next_passes read_pins (λ _. read_from_rule) (after-deed (deed-of c)) (pins-at c).here
 
 -- the number of writes
-abbrev many : tie.Else3 → ℕ
-many c = c.before.before.ruled-count.result.count
+abbrev many : tie.Else-not-ruled → ℕ
+many c = c.before.before.ruled_count-ruled.result.count
 
-rule-at : (c : tie.Else3) → (v : Option Rule) × (read_ruled_count (unread (after-pins (pins-of c))) ≡ got (v, many c) c.before.before.ruled-count.result.size) × (c.before.before.ruled-count.result.rule ≡ rule_given v)
+rule-at : (c : tie.Else-not-ruled) → (v : Option Rule) × (read_ruled_count (unread (after-pins (pins-of c))) ≡ got (v, many c) c.before.before.ruled_count-ruled.result.size) × (c.before.before.ruled_count-ruled.result.rule ≡ rule_given v)
 rule-at c =
-    let r = c.before.before.ruled-count in
-    ruled_count_got (read_ruled_count (unread (after-pins (pins-of c)))) r.result r.ensures.0 (not-false _ c.if3.false)
+    let r = c.before.before.ruled_count-ruled in
+    ruled_count_got (read_ruled_count (unread (after-pins (pins-of c)))) r.result r.ensures.0 (not-false _ c.if-not-ruled.false)
 
-abbrev after-rule : (c : tie.Else3) → Rest read_sheet (read_from_writes (many c))
+abbrev after-rule : (c : tie.Else-not-ruled) → Rest read_sheet (read_from_writes (many c))
 after-rule c = next_passes read_ruled_count (λ ruled. read_from_writes ruled.1) (after-pins (pins-of c)) (rule-at c).1
 
-writes_at : (c : tie.Else4) → (l : List ℕ) × (read_times read_at (many (rule-of c)) (unread (after-rule (rule-of c))) ≡ got l c.before.before.write-lines.result.size) × (c.before.before.write-lines.result.writes ≡ padded 64 l)
+writes_at : (c : tie.Else-not-lines) → (l : List ℕ) × (read_times read_at (many (rule-of c)) (unread (after-rule (rule-of c))) ≡ got l c.before.before.write_lines-lines.result.size) × (c.before.before.write_lines-lines.result.writes ≡ padded 64 l)
 writes_at c =
-    let r = c.before.before.write-lines in
-    written_got (read_times read_at (many (rule-of c)) (unread (after-rule (rule-of c)))) r.result r.ensures.0 (not-false _ c.if4.false)
+    let r = c.before.before.write_lines-lines in
+    written_got (read_times read_at (many (rule-of c)) (unread (after-rule (rule-of c)))) r.result r.ensures.0 (not-false _ c.if-not-lines.false)
 
-abbrev after-writes : tie.Else4 → Rest read_sheet read_annotations
+abbrev after-writes : tie.Else-not-lines → Rest read_sheet read_annotations
 after-writes c = next_passes (read_times read_at (many (rule-of c))) (λ _. read_annotations) (after-rule (rule-of c)) (writes_at c).1
 
-slice-aggregate-keyed-line : tie.Need-slice-aggregate-keyed-line
-slice-aggregate-keyed-line c = search rules
-
-keyed-line-requires : tie.Need-keyed-line-requires
-keyed-line-requires c κs = search rules
+keyed_line-deed-requires : tie.Need-keyed_line-deed-requires
+keyed_line-deed-requires c κs = search rules
 
 broken-requires : tie.Need-broken-requires
 broken-requires c κs = search rules
 
-returns : tie.Need-returns
-returns c =
+returns-then-not-deed : tie.Need-returns-then-not-deed
+returns-then-not-deed c =
     let s = c.before.before.before.before.before.before.args.s.now in
-    let r = c.before.before.before.keyed-line in
-    let h = not_whole (read_deed s) r.result r.ensures.0 (not-true _ c.before.if1.true) in
+    let r = c.before.before.before.keyed_line-deed in
+    let h = not_whole (read_deed s) r.result r.ensures.0 (not-true _ c.before.if-not-deed.true) in
     c.broken.ensures ∙ sym (ap outline_of (first_sticks to_fields read_deed (λ _. read_from_pins) s h))
 
-slice-aggregate-keyed-line-2 : tie.Need-slice-aggregate-keyed-line-2
-slice-aggregate-keyed-line-2 c = search rules
+keyed_line-pins-requires : tie.Need-keyed_line-pins-requires
+keyed_line-pins-requires c κs = search rules
 
-keyed-line-requires-2 : tie.Need-keyed-line-requires-2
-keyed-line-requires-2 c κs = search rules
+overflow_add-pins_at : tie.Need-overflow_add-pins_at
+overflow_add-pins_at c = search rules
 
-add-broken : tie.Need-overflow-add-broken
-add-broken c = search rules
+broken-requires-then-not-pins : tie.Need-broken-requires-then-not-pins
+broken-requires-then-not-pins c κs = search rules
 
-broken-requires-2 : tie.Need-broken-requires-2
-broken-requires-2 c κs = search rules
-
-returns-2 : tie.Need-returns-2
-returns-2 c =
+returns-then-not-pins : tie.Need-returns-then-not-pins
+returns-then-not-pins c =
     let p = c.before.before.before.before.before.before in
-    let r = c.before.before.before.before.keyed-line2 in
-    let h = hex_stuck (pins_word ++ eq) 2 (sheet p) (after-deed p).at r.result r.ensures.0 (not-true _ c.before.before.if2.true) in
-    c.broken2.ensures ∙ sym (ap outline_of (next_sticks read_pins (λ _. read_from_rule) (after-deed p) h))
+    let r = c.before.before.before.before.keyed_line-pins in
+    let h = hex_stuck (pins_word ++ eq) 2 (sheet p) (after-deed p).at r.result r.ensures.0 (not-true _ c.before.before.if-not-pins.true) in
+    c.broken-then-not-pins.ensures ∙ sym (ap outline_of (next_sticks read_pins (λ _. read_from_rule) (after-deed p) h))
 
-add-rule-at : tie.Need-overflow-add-rule-at
-add-rule-at c = search rules
+overflow_add-rule_at : tie.Need-overflow_add-rule_at
+overflow_add-rule_at c = search rules
 
-ruled-count-requires : tie.Need-ruled-count-requires
-ruled-count-requires c κs = search rules
+ruled_count-ruled-requires : tie.Need-ruled_count-ruled-requires
+ruled_count-ruled-requires c κs = search rules
 
-add-broken-2 : tie.Need-overflow-add-broken-2
-add-broken-2 c = search rules
+overflow_add-rule_at-then-not-ruled : tie.Need-overflow_add-rule_at-then-not-ruled
+overflow_add-rule_at-then-not-ruled c = search rules
 
-broken-requires-3 : tie.Need-broken-requires-3
-broken-requires-3 c κs = search rules
+broken-requires-then-not-ruled : tie.Need-broken-requires-then-not-ruled
+broken-requires-then-not-ruled c κs = search rules
 
-returns-3 : tie.Need-returns-3
-returns-3 c =
+returns-then-not-ruled : tie.Need-returns-then-not-ruled
+returns-then-not-ruled c =
     let p = c.before.before.before.before.before.before in
-    let r = c.before.before.before.before.ruled-count in
-    let h = ruled_count_stuck (read_ruled_count (unread (after-pins p))) r.result r.ensures.0 (not-true _ c.before.before.if3.true) in
-    c.broken3.ensures ∙ sym (ap outline_of (next_sticks read_ruled_count (λ ruled. read_from_writes ruled.1) (after-pins p) h))
+    let r = c.before.before.before.before.ruled_count-ruled in
+    let h = ruled_count_stuck (read_ruled_count (unread (after-pins p))) r.result r.ensures.0 (not-true _ c.before.before.if-not-ruled.true) in
+    c.broken-then-not-ruled.ensures ∙ sym (ap outline_of (next_sticks read_ruled_count (λ ruled. read_from_writes ruled.1) (after-pins p) h))
 
-add-writes-at : tie.Need-overflow-add-writes-at
-add-writes-at c = search rules
+overflow_add-writes_at : tie.Need-overflow_add-writes_at
+overflow_add-writes_at c = search rules
 
-write-lines-requires : tie.Need-write-lines-requires
-write-lines-requires c κs = (omega (arith, c.before.before.before.ruled-count.ensures.1), count_most (unread (after-pins (pins-of c.before))) (rule-at c.before).1)
+write_lines-lines-requires : tie.Need-write_lines-lines-requires
+write_lines-lines-requires c κs = (omega (arith, c.before.before.before.ruled_count-ruled.ensures.1), count_most (unread (after-pins (pins-of c.before))) (rule-at c.before).1)
 
-add-broken-3 : tie.Need-overflow-add-broken-3
-add-broken-3 c = omega (arith, short (deed-of (pins-of c.before.before.before.before.before)), c.before.before.before.write-lines.ensures.1)
+overflow_add-writes_at-then-not-lines : tie.Need-overflow_add-writes_at-then-not-lines
+overflow_add-writes_at-then-not-lines c = omega (arith, short (deed-of (pins-of c.before.before.before.before.before)), c.before.before.before.write_lines-lines.ensures.1)
 
-broken-requires-4 : tie.Need-broken-requires-4
-broken-requires-4 c κs = search rules
+broken-requires-then-not-lines : tie.Need-broken-requires-then-not-lines
+broken-requires-then-not-lines c κs = search rules
 
-returns-4 : tie.Need-returns-4
-returns-4 c =
+returns-then-not-lines : tie.Need-returns-then-not-lines
+returns-then-not-lines c =
     let p = c.before.before.before.before.before.before in
-    let r = c.before.before.before.before.write-lines in
-    let h = written_stuck (read_times read_at (many p) (unread (after-rule p))) r.result r.ensures.0 (not-true _ c.before.before.if4.true) in
-    c.broken4.ensures ∙ sym (ap outline_of (next_sticks (read_times read_at (many p)) (λ _. read_annotations) (after-rule p) h))
+    let r = c.before.before.before.before.write_lines-lines in
+    let h = written_stuck (read_times read_at (many p) (unread (after-rule p))) r.result r.ensures.0 (not-true _ c.before.before.if-not-lines.true) in
+    c.broken-then-not-lines.ensures ∙ sym (ap outline_of (next_sticks (read_times read_at (many p)) (λ _. read_annotations) (after-rule p) h))
 
-add-tail : tie.Need-overflow-add-tail
-add-tail c = omega (arith, short (deed-of (pins-of (rule-of c.before))), c.before.before.before.write-lines.ensures.1)
+overflow_add-tail : tie.Need-overflow_add-tail
+overflow_add-tail c = omega (arith, short (deed-of (pins-of (rule-of c.before))), c.before.before.before.write_lines-lines.ensures.1)
 
-annotation-lines-requires : tie.Need-annotation-lines-requires
-annotation-lines-requires c κs = search rules
+annotation_lines-notes-requires : tie.Need-annotation_lines-notes-requires
+annotation_lines-notes-requires c κs = search rules
 
-add-broken-4 : tie.Need-overflow-add-broken-4
-add-broken-4 c = omega (arith, short (deed-of (pins-of (rule-of c.before.before.before.before.before))), c.before.before.before.annotation-lines.ensures.1)
+overflow_add-tail-then-not-notes : tie.Need-overflow_add-tail-then-not-notes
+overflow_add-tail-then-not-notes c = omega (arith, short (deed-of (pins-of (rule-of c.before.before.before.before.before))), c.before.before.before.annotation_lines-notes.ensures.1)
 
-broken-requires-5 : tie.Need-broken-requires-5
-broken-requires-5 c κs = search rules
+broken-requires-then-not-notes : tie.Need-broken-requires-then-not-notes
+broken-requires-then-not-notes c κs = search rules
 
-returns-5 : tie.Need-returns-5
-returns-5 c =
+returns-then-not-notes : tie.Need-returns-then-not-notes
+returns-then-not-notes c =
     let p = c.before.before.before.before.before.before in
-    let r = c.before.before.before.before.annotation-lines in
-    let h = counted_stuck length (read_annotations (unread (after-writes p))) r.result r.ensures.0 (not-true _ c.before.before.if5.true) in
-    c.broken5.ensures ∙ sym (ap outline_of (rest_read read_annotations (after-writes p) h))
+    let r = c.before.before.before.before.annotation_lines-notes in
+    let h = counted_stuck length (read_annotations (unread (after-writes p))) r.result r.ensures.0 (not-true _ c.before.before.if-not-notes.true) in
+    c.broken-then-not-notes.ensures ∙ sym (ap outline_of (rest_read read_annotations (after-writes p) h))
 
-sub-t25 : tie.Need-overflow-sub-t25
-sub-t25 c = omega (arith, (deed_at (deed-of (pins-of (rule-of (writes-of c.before.before))))).long)
+overflow_sub-result : tie.Need-overflow_sub-result
+overflow_sub-result c = omega (arith, (deed_at (deed-of (pins-of (rule-of (writes-of c.before.before))))).long)
 
-add-hex-value : tie.Need-overflow-add-hex-value
-add-hex-value c =
+overflow_add-pins_at-2 : tie.Need-overflow_add-pins_at-2
+overflow_add-pins_at-2 c =
     let p = pins-of (rule-of (writes-of c.before.before)) in
-    omega (arith, short (deed-of p), (pins-at p).long, p.before.before.keyed-line2.ensures.1)
+    omega (arith, short (deed-of p), (pins-at p).long, p.before.before.keyed_line-pins.ensures.1)
 
-hex-value-requires : tie.Need-hex-value-requires
-hex-value-requires c κs =
+hex_value-requires : tie.Need-hex_value-requires
+hex_value-requires c κs =
     let p = pins-of (rule-of (writes-of c.before.before)) in
-    ((omega arith, omega (arith, (pins-at p).long, p.before.before.keyed-line2.ensures.1)), (pins-at p).digits)
+    ((omega arith, omega (arith, (pins-at p).long, p.before.before.keyed_line-pins.ensures.1)), (pins-at p).digits)
 
-cast-t28 : tie.Need-overflow-cast-t28
-cast-t28 c =
+overflow_cast-result : tie.Need-overflow_cast-result
+overflow_cast-result c =
     let p = pins-of (rule-of (writes-of c.before.before.before)) in
     let at = (after-deed (deed-of p)).at + 5 in
     let d = drop at (sheet (deed-of p)) in
-    let w = length-take-le 2 d (omega (arith, length-drop at (sheet (deed-of p)), (pins-at p).long, p.before.before.keyed-line2.ensures.1)) in
+    let w = length-take-le 2 d (omega (arith, length-drop at (sheet (deed-of p)), (pins-at p).long, p.before.before.keyed_line-pins.ensures.1)) in
     omega (arith, c.hex_value_lem.ensures, subst (λ (k : ℕ). hex_value (take 2 d) < 16 ^ k) w (value_lt (take 2 d) (pins-at p).digits))
 
-returns-6 : tie.Need-returns-6
+returns-6 : tie.Need-returns
 returns-6 c =
     let p = writes-of c.before.before.before in
     let q = rule-of p in
-    let r = c.before.before.before.before.before.annotation-lines in
-    let g = counted_got length (read_annotations (unread (after-writes p))) r.result r.ensures.0 (not-false _ c.before.before.before.if5.false) in
+    let r = c.before.before.before.before.before.annotation_lines-notes in
+    let g = counted_got length (read_annotations (unread (after-writes p))) r.result r.ensures.0 (not-false _ c.before.before.before.if-not-notes.false) in
     outlined (after-writes p) g.1 refl (omega (arith, (deed_at (deed-of (pins-of q))).long)) c.hex_value_lem.ensures (rule-at q).2 (writes_at p).2 (writes_many (many q) (unread (after-rule q)) (writes_at p).1) g.2
 
-pub survey-spec : {M : Type 1} → statement M
-survey-spec =
+pub survey_spec : {M : Type 1} → statement M
+survey_spec =
     tie.close
     (tie.spec
-    slice-aggregate-keyed-line
-    keyed-line-requires
+    keyed_line-deed-requires
     broken-requires
-    returns
-    slice-aggregate-keyed-line-2
-    keyed-line-requires-2
-    add-broken
-    broken-requires-2
-    returns-2
-    add-rule-at
-    ruled-count-requires
-    add-broken-2
-    broken-requires-3
-    returns-3
-    add-writes-at
-    write-lines-requires
-    add-broken-3
-    broken-requires-4
-    returns-4
-    add-tail
-    annotation-lines-requires
-    add-broken-4
-    broken-requires-5
-    returns-5
-    sub-t25
-    add-hex-value
-    hex-value-requires
-    cast-t28
+    returns-then-not-deed
+    keyed_line-pins-requires
+    overflow_add-pins_at
+    broken-requires-then-not-pins
+    returns-then-not-pins
+    overflow_add-rule_at
+    ruled_count-ruled-requires
+    overflow_add-rule_at-then-not-ruled
+    broken-requires-then-not-ruled
+    returns-then-not-ruled
+    overflow_add-writes_at
+    write_lines-lines-requires
+    overflow_add-writes_at-then-not-lines
+    broken-requires-then-not-lines
+    returns-then-not-lines
+    overflow_add-tail
+    annotation_lines-notes-requires
+    overflow_add-tail-then-not-notes
+    broken-requires-then-not-notes
+    returns-then-not-notes
+    overflow_sub-result
+    overflow_add-pins_at-2
+    hex_value-requires
+    overflow_cast-result
     returns-6)

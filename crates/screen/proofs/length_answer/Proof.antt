@@ -12,32 +12,32 @@ use Rattle.screen.proofs.length_answer.Tie as tie
 border-requires : tie.Need-border-requires
 border-requires c κs = search rules
 
-cast-t9 : tie.Need-overflow-cast-t9
-cast-t9 c = search rules
+overflow_cast-answer : tie.Need-overflow_cast-answer
+overflow_cast-answer c = search rules
 
-pins-above-requires : tie.Need-pins-above-requires
-pins-above-requires c κs = search rules
+pins_above-answer-requires : tie.Need-pins_above-answer-requires
+pins_above-answer-requires c κs = search rules
 
-fast-rate-requires : tie.Need-fast-rate-requires
-fast-rate-requires c κs = search rules
+fast_rate-answer-requires : tie.Need-fast_rate-answer-requires
+fast_rate-answer-requires c κs = search rules
 
-image-length-requires : tie.Need-image-length-requires
-image-length-requires c κs = search rules
+image_length-answer-requires : tie.Need-image_length-answer-requires
+image_length-answer-requires c κs = search rules
 
-not-suited-requires : tie.Need-not-suited-requires
-not-suited-requires c κs = search rules
+not_suited-answer-requires : tie.Need-not_suited-answer-requires
+not_suited-answer-requires c κs = search rules
 
-font-length-requires : tie.Need-font-length-requires
-font-length-requires c κs = search rules
+font_length-answer-requires : tie.Need-font_length-answer-requires
+font_length-answer-requires c κs = search rules
 
-short-strip-requires : tie.Need-short-strip-requires
-short-strip-requires c κs = search rules
+short_strip-answer-requires : tie.Need-short_strip-answer-requires
+short_strip-answer-requires c κs = search rules
 
-short-frame-requires : tie.Need-short-frame-requires
-short-frame-requires c κs = search rules
+short_frame-answer-requires : tie.Need-short_frame-answer-requires
+short_frame-answer-requires c κs = search rules
 
-not-fitted-requires : tie.Need-not-fitted-requires
-not-fitted-requires c κs = search rules
+not_fitted-requires : tie.Need-not_fitted-requires
+not_fitted-requires c κs = search rules
 
 returns : tie.Need-returns
 returns c =
@@ -52,22 +52,22 @@ returns c =
     let a = edge.before.before.args in
     let d = done (border a.settings.look) in
     let order = show_lengths a.settings a.image a.font a.strip a.frame in
-    let e : told_of c.not-fitted.result ≡ after_each order d =
-    next _ c.not-fitted.ensures (next _ tall.short-frame.ensures (next _ short.short-strip.ensures (next _ font.font-length.ensures (next _ suited.not-suited.ensures (next _ long.image-length.ensures (next _ fast.fast-rate.ensures (next _ pins.pins-above.ensures (ap done edge.border.ensures)))))))) in
+    let e : told_of c.not_fitted.result ≡ after_each order d =
+    next _ c.not_fitted.ensures (next _ tall.short_frame-answer.ensures (next _ short.short_strip-answer.ensures (next _ font.font_length-answer.ensures (next _ suited.not_suited-answer.ensures (next _ long.image_length-answer.ensures (next _ fast.fast_rate-answer.ensures (next _ pins.pins_above-answer.ensures (ap done edge.border.ensures)))))))) in
     e ∙ in_order d refl order tt
 
-pub length-answer-spec : {M : Type 1} → statement M
-length-answer-spec =
+pub length_answer_spec : {M : Type 1} → statement M
+length_answer_spec =
     tie.close
     (tie.spec
     border-requires
-    cast-t9
-    pins-above-requires
-    fast-rate-requires
-    image-length-requires
-    not-suited-requires
-    font-length-requires
-    short-strip-requires
-    short-frame-requires
-    not-fitted-requires
+    overflow_cast-answer
+    pins_above-answer-requires
+    fast_rate-answer-requires
+    image_length-answer-requires
+    not_suited-answer-requires
+    font_length-answer-requires
+    short_strip-answer-requires
+    short_frame-answer-requires
+    not_fitted-requires
     returns)

@@ -10,40 +10,40 @@ use Rattle.screen.proofs.show.Tie as tie
 abbrev start_of : tie.After-number → tie.Start
 start_of c = c.before.before.before.before.before.before
 
-passed : (c : tie.Else1) → (told_of c.before.before.length-answer.result).number ≡ 0
-passed c = sym c.before.number.ensures ∙ c.if1.false
+passed : (c : tie.Else-number-ne0) → (told_of c.before.before.length_answer-answer.result).number ≡ 0
+passed c = sym c.before.number.ensures ∙ c.if-number-ne0.false
 
-length-answer-requires : tie.Need-length-answer-requires
-length-answer-requires c κs = search rules
+length_answer-answer-requires : tie.Need-length_answer-answer-requires
+length_answer-answer-requires c κs = search rules
 
 number-requires : tie.Need-number-requires
 number-requires c κs = search rules
 
-returns : tie.Need-returns
-returns c =
+returns-then-number-ne0 : tie.Need-returns-then-number-ne0
+returns-then-number-ne0 c =
     let a = (start_of c.before).args in
-    length_refused a.settings a.image.now a.font.now a.strip.now a.frame.now c.before.before.length-answer.ensures (λ z. c.if1.true (c.before.number.ensures ∙ z))
+    length_refused a.settings a.image.now a.font.now a.strip-1.now a.frame-1.now c.before.before.length_answer-answer.ensures (λ z. c.if-number-ne0.true (c.before.number.ensures ∙ z))
 
 render-requires : tie.Need-render-requires
-render-requires c κs = rw c.before.before.before.before.length-answer.ensures at (passed c.before.before)
+render-requires c κs = rw c.before.before.before.before.length_answer-answer.ensures at (passed c.before.before)
 
-same_length : tie.Need-same-length
-same_length c = search rules
+shape_of-strip : tie.Need-shape_of-strip
+shape_of-strip c = search rules
 
-same-length-2 : tie.Need-same-length-2
-same-length-2 c = search rules
+shape_of-frame : tie.Need-shape_of-frame
+shape_of-frame c = search rules
 
-returns-2 : tie.Need-returns-2
+returns-2 : tie.Need-returns
 returns-2 c = search rules
 
-pub show-spec : {M : Type 1} → statement M
-show-spec =
+pub show_spec : {M : Type 1} → statement M
+show_spec =
     tie.close
     (tie.spec
-    length-answer-requires
+    length_answer-answer-requires
     number-requires
-    returns
+    returns-then-number-ne0
     render-requires
-    same_length
-    same-length-2
+    shape_of-strip
+    shape_of-frame
     returns-2)

@@ -15,16 +15,16 @@ matched c = c.memory.ensures
 memory-requires : tie.Need-memory-requires
 memory-requires c κs = search rules
 
-returns : tie.Need-returns
-returns c = rw (sym (matched c.before) ∙ c.match.keys1)
+returns-in-0 : tie.Need-returns-in-0
+returns-in-0 c = rw (sym (matched c.before) ∙ c.in_default.keys1)
 
-returns-2 : tie.Need-returns-2
-returns-2 c = rw (sym (matched c.before) ∙ c.match.keys2)
+returns-in-1 : tie.Need-returns-in-1
+returns-in-1 c = rw (sym (matched c.before) ∙ c.in_default.keys2)
 
-returns-3 : tie.Need-returns-3
-returns-3 c =
+returns-in_default : tie.Need-returns-in_default
+returns-in_default c =
     let e = matched c.before in
-    (other_rows (memory c.before.before.args.settings) (mod-lt _ (lit< tt)) (λ z. c.match.rest.0.1 (e ∙ z)) (λ z. c.match.rest.1 (e ∙ z))).0
+    (other_rows (memory c.before.before.args.settings) (mod-lt _ (lit< tt)) (λ z. c.in_default.rest.0.1 (e ∙ z)) (λ z. c.in_default.rest.1 (e ∙ z))).0
 
-pub bank-bit-spec : {M : Type 1} → statement M
-bank-bit-spec = tie.close (tie.spec memory-requires returns returns-2 returns-3)
+pub bank_bit_spec : {M : Type 1} → statement M
+bank_bit_spec = tie.close (tie.spec memory-requires returns-in-0 returns-in-1 returns-in_default)

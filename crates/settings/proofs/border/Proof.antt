@@ -10,11 +10,11 @@ use Rattle.settings.proofs.border.Statement.{statement}
 use Rattle.settings.proofs.border.Tie as tie
 
 -- A/G = 0, and GM2 = 1, past the tests that say so
-in_text : (c : tie.Else1) → graphics c.before.before.args.look ≡ false
-in_text c = rw c.before.graphics.ensures at c.if1.false
+in_text : (c : tie.Else-graphics) → graphics c.before.before.args.look ≡ false
+in_text c = rw c.before.graphics.ensures at c.if-graphics.false
 
-enhanced : (c : tie.Else2) → eqb (gm2 c.before.before.before.before.before.args.look) 0 ≡ false
-enhanced c = ne_eqb _ _ (rw c.before.field.ensures at c.if2.false)
+enhanced : (c : tie.Else-field-eq0) → eqb (gm2 c.before.before.before.before.before.args.look) 0 ≡ false
+enhanced c = ne_eqb _ _ (rw c.before.field.ensures at c.if-field-eq0.false)
 
 graphics-requires : tie.Need-graphics-requires
 graphics-requires c κs = search rules
@@ -22,63 +22,63 @@ graphics-requires c κs = search rules
 css-requires : tie.Need-css-requires
 css-requires c κs = search rules
 
-mul-result : tie.Need-overflow-mul-result
-mul-result c = search rules
+overflow_mul-result : tie.Need-overflow_mul-result
+overflow_mul-result c = search rules
 
-returns : tie.Need-returns
+returns-then-graphics : tie.Need-returns-then-graphics
 unfolding border
-returns c = simp (rw c.before.before.graphics.ensures at c.before.if1.true, c.css.ensures)
+returns-then-graphics c = simp (rw c.before.before.graphics.ensures at c.before.if-graphics.true, c.css.ensures)
 
-cast-field : tie.Need-overflow-cast-field
-cast-field c = search rules
+overflow_cast-look : tie.Need-overflow_cast-look
+overflow_cast-look c = search rules
 
 field-requires : tie.Need-field-requires
 field-requires c κs = search rules
 
-returns-2 : tie.Need-returns-2
+returns-then-field-eq0 : tie.Need-returns-then-field-eq0
 unfolding border
-returns-2 c = simp (in_text c.before.before.before, eq-eqb _ _ (rw c.before.field.ensures at c.if2.true))
+returns-then-field-eq0 c = simp (in_text c.before.before.before, eq-eqb _ _ (rw c.before.field.ensures at c.if-field-eq0.true))
 
-cast-field-2 : tie.Need-overflow-cast-field-2
-cast-field-2 c = search rules
+overflow_cast-look-2 : tie.Need-overflow_cast-look-2
+overflow_cast-look-2 c = search rules
 
 field-requires-2 : tie.Need-field-requires-2
 field-requires-2 c κs = search rules
 
-returns-3 : tie.Need-returns-3
+returns-then-field-eq1 : tie.Need-returns-then-field-eq1
 unfolding border
-returns-3 c = simp (in_text c.before.before.before.before.before.before, enhanced c.before.before.before, eq-eqb _ _ (rw c.before.field2.ensures at c.if3.true))
+returns-then-field-eq1 c = simp (in_text c.before.before.before.before.before.before, enhanced c.before.before.before, eq-eqb _ _ (rw c.before.field-2.ensures at c.if-field-eq1.true))
 
 css-requires-2 : tie.Need-css-requires-2
 css-requires-2 c κs = search rules
 
-mul-result-2 : tie.Need-overflow-mul-result-2
-mul-result-2 c = search rules
+overflow_mul-result-2 : tie.Need-overflow_mul-result-2
+overflow_mul-result-2 c = search rules
 
-returns-4 : tie.Need-returns-4
+returns-4 : tie.Need-returns
 unfolding border
 returns-4 c =
     simp (
       in_text c.before.before.before.before.before.before.before,
       enhanced c.before.before.before.before,
-      ne_eqb _ _ (rw c.before.before.field2.ensures at c.before.if3.false),
-      c.css2.ensures,
+      ne_eqb _ _ (rw c.before.before.field-2.ensures at c.before.if-field-eq1.false),
+      c.css-2.ensures,
     )
 
-pub border-spec : {M : Type 1} → statement M
-border-spec =
+pub border_spec : {M : Type 1} → statement M
+border_spec =
     tie.close
     (tie.spec
     graphics-requires
     css-requires
-    mul-result
-    returns
-    cast-field
+    overflow_mul-result
+    returns-then-graphics
+    overflow_cast-look
     field-requires
-    returns-2
-    cast-field-2
+    returns-then-field-eq0
+    overflow_cast-look-2
     field-requires-2
-    returns-3
+    returns-then-field-eq1
     css-requires-2
-    mul-result-2
+    overflow_mul-result-2
     returns-4)

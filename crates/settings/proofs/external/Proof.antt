@@ -6,8 +6,8 @@ use Rattle.settings.proofs.external.Tie as tie
 graphics-requires : tie.Need-graphics-requires
 graphics-requires c κs = search rules
 
-cast-field : tie.Need-overflow-cast-field
-cast-field c = search rules
+overflow_cast-look : tie.Need-overflow_cast-look
+overflow_cast-look c = search rules
 
 field-requires : tie.Need-field-requires
 field-requires c κs = search rules
@@ -15,5 +15,5 @@ field-requires c κs = search rules
 returns : tie.Need-returns
 returns c = rw (c.before.before.graphics.ensures, c.field.ensures)
 
-pub external-spec : {M : Type 1} → statement M
-external-spec = tie.close (tie.spec graphics-requires cast-field field-requires returns)
+pub external_spec : {M : Type 1} → statement M
+external_spec = tie.close (tie.spec graphics-requires overflow_cast-look field-requires returns)

@@ -9,5 +9,5 @@ field-requires c κs = search rules
 returns : tie.Need-returns
 returns c = rw c.field.ensures
 
-pub fast-spec : {M : Type 1} → statement M
-fast-spec = tie.close (tie.spec field-requires returns)
+pub fast_spec : {M : Type 1} → statement M
+fast_spec = tie.close (tie.spec field-requires returns)

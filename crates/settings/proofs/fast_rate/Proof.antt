@@ -12,5 +12,5 @@ check-requires c κs = search rules
 returns : tie.Need-returns
 returns c = rw c.before.fast.ensures at c.check.ensures
 
-pub fast-rate-spec : {M : Type 1} → statement M
-fast-rate-spec = tie.close (tie.spec fast-requires check-requires returns)
+pub fast_rate_spec : {M : Type 1} → statement M
+fast_rate_spec = tie.close (tie.spec fast-requires check-requires returns)

@@ -4,17 +4,17 @@ use borrow.Author.Rules.{rules}
 use Rattle.settings.proofs.field.Statement.{statement}
 use Rattle.settings.proofs.field.Tie as tie
 
-shl-mask : tie.Need-overflow-shl-mask
-shl-mask c = search rules
+overflow_shl-mask : tie.Need-overflow_shl-mask
+overflow_shl-mask c = search rules
 
-sub-mask : tie.Need-overflow-sub-mask
-sub-mask c = mask_pos c.args.count c.requires.1
+overflow_sub-mask : tie.Need-overflow_sub-mask
+overflow_sub-mask c = mask_pos c.args.count c.requires.1
 
-shr-result : tie.Need-overflow-shr-result
-shr-result c = search rules
+overflow_shr-result : tie.Need-overflow_shr-result
+overflow_shr-result c = search rules
 
 returns : tie.Need-returns
 returns c = masked c.args.word c.args.at c.args.count c.requires.1
 
-pub field-spec : {M : Type 1} → statement M
-field-spec = tie.close (tie.spec shl-mask sub-mask shr-result returns)
+pub field_spec : {M : Type 1} → statement M
+field_spec = tie.close (tie.spec overflow_shl-mask overflow_sub-mask overflow_shr-result returns)

@@ -7,13 +7,13 @@ use Rattle.settings.proofs.font_size.Tie as tie
 external-requires : tie.Need-external-requires
 external-requires c κs = search rules
 
-returns : tie.Need-returns
+returns-then-external : tie.Need-returns-then-external
 unfolding font_size
-returns c = simp (rw c.before.external.ensures at c.if1.true)
+returns-then-external c = simp (rw c.before.external.ensures at c.if-external.true)
 
-returns-2 : tie.Need-returns-2
+returns-else-external : tie.Need-returns-else-external
 unfolding font_size
-returns-2 c = simp (rw c.before.external.ensures at c.if1.false)
+returns-else-external c = simp (rw c.before.external.ensures at c.if-external.false)
 
-pub font-size-spec : {M : Type 1} → statement M
-font-size-spec = tie.close (tie.spec external-requires returns returns-2)
+pub font_size_spec : {M : Type 1} → statement M
+font_size_spec = tie.close (tie.spec external-requires returns-then-external returns-else-external)

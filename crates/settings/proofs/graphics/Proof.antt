@@ -3,8 +3,8 @@ use borrow.Author.Rules.{rules}
 use Rattle.settings.proofs.graphics.Statement.{statement}
 use Rattle.settings.proofs.graphics.Tie as tie
 
-cast-field : tie.Need-overflow-cast-field
-cast-field c = search rules
+overflow_cast-look : tie.Need-overflow_cast-look
+overflow_cast-look c = search rules
 
 field-requires : tie.Need-field-requires
 field-requires c κs = search rules
@@ -12,5 +12,5 @@ field-requires c κs = search rules
 returns : tie.Need-returns
 returns c = rw c.field.ensures
 
-pub graphics-spec : {M : Type 1} → statement M
-graphics-spec = tie.close (tie.spec cast-field field-requires returns)
+pub graphics_spec : {M : Type 1} → statement M
+graphics_spec = tie.close (tie.spec overflow_cast-look field-requires returns)

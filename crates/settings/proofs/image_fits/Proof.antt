@@ -5,14 +5,14 @@ use Rattle.settings.specs.Refusals.{image_fits}
 use Rattle.settings.proofs.image_fits.Statement.{statement}
 use Rattle.settings.proofs.image_fits.Tie as tie
 
-returns : tie.Need-returns
+returns-in-4096 : tie.Need-returns-in-4096
 unfolding image_fits
-returns c = ⊎_elim (λ e. rw e) (⊎_elim (λ e. rw e) (⊎_elim (λ e. rw e) (⊎_elim (λ e. rw e) (λ e. rw e)))) c.match.keys1
+returns-in-4096 c = ⊎_elim (λ e. rw e) (⊎_elim (λ e. rw e) (⊎_elim (λ e. rw e) (⊎_elim (λ e. rw e) (λ e. rw e)))) c.in_default.keys1
 
-returns-2 : tie.Need-returns-2
+returns-in_default : tie.Need-returns-in_default
 unfolding image_fits
-returns-2 c =
-    let h = c.match.rest.1 in
+returns-in_default c =
+    let h = c.in_default.rest.1 in
     simp (
       ne_eqb c.before.args.length 4096 (λ e. h (inl e)),
       ne_eqb c.before.args.length 8192 (λ e. h (inr (inl e))),
@@ -21,5 +21,5 @@ returns-2 c =
       ne_eqb c.before.args.length 65536 (λ e. h (inr (inr (inr (inr e))))),
     )
 
-pub image-fits-spec : {M : Type 1} → statement M
-image-fits-spec = tie.close (tie.spec returns returns-2)
+pub image_fits_spec : {M : Type 1} → statement M
+image_fits_spec = tie.close (tie.spec returns-in-4096 returns-in_default)

@@ -4,50 +4,50 @@ use borrow.Author.Rules.{rules}
 use Rattle.settings.proofs.mode_name.Statement.{statement}
 use Rattle.settings.proofs.mode_name.Tie as tie
 
-gm-requires : tie.Need-gm-requires
-gm-requires c κs = search rules
+gm-g-requires : tie.Need-gm-g-requires
+gm-g-requires c κs = search rules
 
 graphics-requires : tie.Need-graphics-requires
 graphics-requires c κs = search rules
 
-array-read-t7 : tie.Need-array-read-t7
-array-read-t7 c = search rules
+bounds-g : tie.Need-bounds-g
+bounds-g c = search rules
 
-array-read-t11 : tie.Need-array-read-t11
-array-read-t11 c = search rules
+bounds-g-then-graphics : tie.Need-bounds-g-then-graphics
+bounds-g-then-graphics c = search rules
 
-returns : tie.Need-returns
+returns-then-graphics : tie.Need-returns-then-graphics
 unfolding mode_name
-returns c = simp (rw c.before.graphics.ensures at c.if1.true, c.before.before.gm.ensures)
+returns-then-graphics c = simp (rw c.before.graphics.ensures at c.if-graphics.true, c.before.before.gm-g.ensures)
 
 external-requires : tie.Need-external-requires
 external-requires c κs = search rules
 
-returns-2 : tie.Need-returns-2
+returns-then-external : tie.Need-returns-then-external
 unfolding mode_name
-returns-2 c = rw (rw c.before.external.ensures at c.if2.true) (simp (rw c.before.before.before.graphics.ensures at c.before.before.if1.false))
+returns-then-external c = rw (rw c.before.external.ensures at c.if-external.true) (simp (rw c.before.before.before.graphics.ensures at c.before.before.if-graphics.false))
 
-cast-t16 : tie.Need-overflow-cast-t16
-cast-t16 c = search rules
+overflow_cast-result : tie.Need-overflow_cast-result
+overflow_cast-result c = search rules
 
-add-t17 : tie.Need-overflow-add-t17
-add-t17 c = search rules
+overflow_add-result : tie.Need-overflow_add-result
+overflow_add-result c = search rules
 
-returns-3 : tie.Need-returns-3
+returns-3 : tie.Need-returns
 unfolding mode_name
-returns-3 c = rw (rw c.before.external.ensures at c.if2.false) (simp (rw c.before.before.before.graphics.ensures at c.before.before.if1.false, c.before.before.before.before.gm.ensures))
+returns-3 c = rw (rw c.before.external.ensures at c.if-external.false) (simp (rw c.before.before.before.graphics.ensures at c.before.before.if-graphics.false, c.before.before.before.before.gm-g.ensures))
 
-pub mode-name-spec : {M : Type 1} → statement M
-mode-name-spec =
+pub mode_name_spec : {M : Type 1} → statement M
+mode_name_spec =
     tie.close
     (tie.spec
-    gm-requires
+    gm-g-requires
     graphics-requires
-    array-read-t7
-    array-read-t11
-    returns
+    bounds-g
+    bounds-g-then-graphics
+    returns-then-graphics
     external-requires
-    returns-2
-    cast-t16
-    add-t17
+    returns-then-external
+    overflow_cast-result
+    overflow_add-result
     returns-3)

@@ -12,5 +12,5 @@ check-requires c κs = search rules
 returns : tie.Need-returns
 returns c = rw c.before.suits.ensures at c.check.ensures
 
-pub not-suited-spec : {M : Type 1} → statement M
-not-suited-spec = tie.close (tie.spec suits-requires check-requires returns)
+pub not_suited_spec : {M : Type 1} → statement M
+not_suited_spec = tie.close (tie.spec suits-requires check-requires returns)

@@ -8,11 +8,11 @@ use Rattle.settings.proofs.strip_length.Tie as tie
 width-requires : tie.Need-width-requires
 width-requires c κs = search rules
 
-mul-result : tie.Need-overflow-mul-result
-mul-result c = omega (arith, c.width.ensures, width_le c.before.args.look)
+overflow_mul-result : tie.Need-overflow_mul-result
+overflow_mul-result c = omega (arith, c.width.ensures, width_le c.before.args.look)
 
 returns : tie.Need-returns
 returns c = search rules
 
-pub strip-length-spec : {M : Type 1} → statement M
-strip-length-spec = tie.close (tie.spec width-requires mul-result returns)
+pub strip_length_spec : {M : Type 1} → statement M
+strip_length_spec = tie.close (tie.spec width-requires overflow_mul-result returns)

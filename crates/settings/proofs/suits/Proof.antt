@@ -6,20 +6,20 @@ use borrow.Author.Rules.{rules}
 use Rattle.settings.proofs.suits.Statement.{statement}
 use Rattle.settings.proofs.suits.Tie as tie
 
-bank-bit-requires : tie.Need-bank-bit-requires
-bank-bit-requires c κs = search rules
+bank_bit-bank-requires : tie.Need-bank_bit-bank-requires
+bank_bit-bank-requires c κs = search rules
 
-shl-bank : tie.Need-overflow-shl-bank
-shl-bank c = omega (arith, c.bank-bit.ensures, bit_lt c.before.args.settings)
+overflow_shl-bank : tie.Need-overflow_shl-bank
+overflow_shl-bank c = omega (arith, c.bank_bit-bank.ensures, bit_lt c.before.args.settings)
 
-full-size-requires : tie.Need-full-size-requires
-full-size-requires c κs = search rules
+full_size-requires : tie.Need-full_size-requires
+full_size-requires c κs = search rules
 
 returns : tie.Need-returns
 unfolding suited
 returns c =
     let b = c.before in
-    rw (b.bank-bit.ensures, one_shifted b.before.args.settings, c.full_size.ensures)
+    rw (b.bank_bit-bank.ensures, one_shifted b.before.args.settings, c.full_size.ensures)
 
-pub suits-spec : {M : Type 1} → statement M
-suits-spec = tie.close (tie.spec bank-bit-requires shl-bank full-size-requires returns)
+pub suits_spec : {M : Type 1} → statement M
+suits_spec = tie.close (tie.spec bank_bit-bank-requires overflow_shl-bank full_size-requires returns)

@@ -12,5 +12,5 @@ check-requires c κs = search rules
 returns : tie.Need-returns
 returns c = rw c.before.graphics.ensures at c.check.ensures
 
-pub text-back-spec : {M : Type 1} → statement M
-text-back-spec = tie.close (tie.spec graphics-requires check-requires returns)
+pub text_back_spec : {M : Type 1} → statement M
+text_back_spec = tie.close (tie.spec graphics-requires check-requires returns)

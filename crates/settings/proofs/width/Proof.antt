@@ -4,27 +4,27 @@ use borrow.Author.Rules.{rules}
 use Rattle.settings.proofs.width.Statement.{statement}
 use Rattle.settings.proofs.width.Tie as tie
 
-gm-requires : tie.Need-gm-requires
-gm-requires c κs = search rules
+gm-g-requires : tie.Need-gm-g-requires
+gm-g-requires c κs = search rules
 
 graphics-requires : tie.Need-graphics-requires
 graphics-requires c κs = search rules
 
-mul-result : tie.Need-overflow-mul-result
-mul-result c = search rules
+offset_bounds-g : tie.Need-offset_bounds-g
+offset_bounds-g c = search rules
 
-array-read-result : tie.Need-array-read-result
-array-read-result c = search rules
+bounds-g : tie.Need-bounds-g
+bounds-g c = search rules
 
-returns : tie.Need-returns
+returns-then-graphics : tie.Need-returns-then-graphics
 unfolding width
-returns c = simp (rw c.before.graphics.ensures at c.if1.true, c.before.before.gm.ensures)
+returns-then-graphics c = simp (rw c.before.graphics.ensures at c.if-graphics.true, c.before.before.gm-g.ensures)
 
-returns-2 : tie.Need-returns-2
+returns-else-graphics : tie.Need-returns-else-graphics
 unfolding width
-returns-2 c = simp (rw c.before.graphics.ensures at c.if1.false)
+returns-else-graphics c = simp (rw c.before.graphics.ensures at c.if-graphics.false)
 
 pub width_spec : {M : Type 1} → statement M
 width_spec =
     tie.close
-    (tie.spec gm-requires graphics-requires mul-result array-read-result returns returns-2)
+    (tie.spec gm-g-requires graphics-requires offset_bounds-g bounds-g returns-then-graphics returns-else-graphics)

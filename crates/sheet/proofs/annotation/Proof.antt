@@ -11,30 +11,30 @@ use Rattle.sheet.proofs.annotation.Statement.{statement}
 use Rattle.sheet.proofs.annotation.Tie as tie
 
 -- the line lies within the sheet
-inside : (c : tie.After-struct-known) → c.before.annotation.result.from + c.before.annotation.result.size ≤ length c.before.before.before.args.sheet.now
-inside c = let a = c.before.before.before.args in omega (arith, line_within a.sheet.now a.n, c.before.annotation.ensures.0, c.before.annotation.ensures.1)
+inside : (c : tie.After-struct_known-1) → c.before.annotation-found.result.from + c.before.annotation-found.result.size ≤ length c.before.before.before.args.sheet.now
+inside c = let a = c.before.before.before.args in omega (arith, line_within a.sheet.now a.n, c.before.annotation-found.ensures.0, c.before.annotation-found.ensures.1)
 
-annotation-requires : tie.Need-annotation-requires
-annotation-requires c κs = search rules
+annotation-found-requires : tie.Need-annotation-found-requires
+annotation-found-requires c κs = search rules
 
-add-end : tie.Need-overflow-add-end
-add-end c = omega (arith, inside c)
+overflow_add-end : tie.Need-overflow_add-end
+overflow_add-end c = omega (arith, inside c)
 
-sub-result : tie.Need-overflow-sub-result
-sub-result c = search rules
+slice_bounds-result-count : tie.Need-slice_bounds-result-count
+slice_bounds-result-count c = search rules
 
-part-result-start : tie.Need-slice-bounds-result-start
-part-result-start c = search rules
+slice_bounds-result-start : tie.Need-slice_bounds-result-start
+slice_bounds-result-start c = search rules
 
-part-result-end : tie.Need-slice-bounds-result-end
-part-result-end c = inside c
+slice_bounds-result-end : tie.Need-slice_bounds-result-end
+slice_bounds-result-end c = inside c
 
 returns : tie.Need-returns
 returns c =
     let a = c.before.before.before.before.args in
-    let r = c.before.before.annotation in
-    let n : length (line_at (fields_in a.sheet.now).annotations a.n) ≡ r.result.from + r.result.size - r.result.from = omega (arith, r.ensures.1) in
-    part_move r.result.from (r.result.from + r.result.size - r.result.from) (annotation_from a.sheet.now a.n) (length (line_at (fields_in a.sheet.now).annotations a.n)) (sym r.ensures.0) n (record { bytes = refl; block = refl; offset = refl })
+    let r = c.before.before.annotation-found in
+    let n : length (line_at (fields_in a.sheet.now).annotations a.n) ≡ r.result-1.from + r.result-1.size - r.result-1.from = omega (arith, r.ensures.1) in
+    part_move r.result-1.from (r.result-1.from + r.result-1.size - r.result-1.from) (annotation_from a.sheet.now a.n) (length (line_at (fields_in a.sheet.now).annotations a.n)) (sym r.ensures.0) n (record { bytes = refl; block = refl; offset = refl })
 
-pub annotation-spec : {M : Type 1} → statement M
-annotation-spec = tie.close (tie.spec annotation-requires add-end sub-result part-result-start part-result-end returns)
+pub annotation_spec : {M : Type 1} → statement M
+annotation_spec = tie.close (tie.spec annotation-found-requires overflow_add-end slice_bounds-result-count slice_bounds-result-start slice_bounds-result-end returns)

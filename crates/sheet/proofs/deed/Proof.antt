@@ -16,52 +16,52 @@ use Rattle.sheet.proofs.deed.Statement.{statement}
 use Rattle.sheet.proofs.deed.Tie as tie
 
 -- the sheet is whole, and the deed lies within it
-found : (c : tie.After-struct-known) → WholeGiven (read_sheet c.before.before.before.before.args.sheet.now) c.before.before.survey.result
-found c = whole_given (read_sheet c.before.before.before.before.args.sheet.now) c.before.before.survey.result c.before.before.survey.ensures c.before.if1.true
+found : (c : tie.After-struct_known-1) → WholeGiven (read_sheet c.before.before.before.before.args.sheet.now) c.before.before.survey-found.result
+found c = whole_given (read_sheet c.before.before.before.before.args.sheet.now) c.before.before.survey-found.result c.before.before.survey-found.ensures c.before.if-found.true
 
-inside : (c : tie.After-struct-known) → 5 + c.before.before.survey.result.deed ≤ length c.before.before.before.before.args.sheet.now
+inside : (c : tie.After-struct_known-1) → 5 + c.before.before.survey-found.result.deed ≤ length c.before.before.before.before.args.sheet.now
 inside c = let g = found c in omega (arith, deed_within c.before.before.before.before.args.sheet.now g.is_got_lem, g.deed)
 
-survey-requires : tie.Need-survey-requires
-survey-requires c κs = search rules
+survey-found-requires : tie.Need-survey-found-requires
+survey-found-requires c κs = search rules
 
-add-end : tie.Need-overflow-add-end
-add-end c = omega (arith, inside c)
+overflow_add-end : tie.Need-overflow_add-end
+overflow_add-end c = omega (arith, inside c)
 
-sub-result : tie.Need-overflow-sub-result
-sub-result c = search rules
+slice_bounds-result-count : tie.Need-slice_bounds-result-count
+slice_bounds-result-count c = search rules
 
-part-result-start : tie.Need-slice-bounds-result-start
-part-result-start c = search rules
+slice_bounds-result-start : tie.Need-slice_bounds-result-start
+slice_bounds-result-start c = search rules
 
-part-result-end : tie.Need-slice-bounds-result-end
-part-result-end c = omega (arith, inside c)
+slice_bounds-result-end : tie.Need-slice_bounds-result-end
+slice_bounds-result-end c = omega (arith, inside c)
 
-returns : tie.Need-returns
-returns c =
+returns-then-found : tie.Need-returns-then-found
+returns-then-found c =
     let s = c.before.before.before.before.before.args.sheet.now in
     let k = c.before in
     let g = found k in
-    part_move 5 (5 + c.before.before.before.survey.result.deed - 5) (deed_from s) (length (fields_in s).deed) (deed_at s g.is_got_lem) (sym g.deed ∙ omega arith) (record { bytes = refl; block = refl; offset = refl })
+    part_move 5 (5 + c.before.before.before.survey-found.result.deed - 5) (deed_from s) (length (fields_in s).deed) (deed_at s g.is_got_lem) (sym g.deed ∙ omega arith) (record { bytes = refl; block = refl; offset = refl })
 
-slice-aggregate-result : tie.Need-slice-aggregate-result
-slice-aggregate-result c = search rules
+slice_bounds-result-end-2 : tie.Need-slice_bounds-result-end-2
+slice_bounds-result-end-2 c = search rules
 
-returns-2 : tie.Need-returns-2
+returns-2 : tie.Need-returns
 returns-2 c =
     let s = c.before.before.before.before.args.sheet.now in
-    let g = broken_given (read_sheet s) c.before.before.survey.result c.before.before.survey.ensures c.before.if1.false in
+    let g = broken_given (read_sheet s) c.before.before.survey-found.result c.before.before.survey-found.ensures c.before.if-found.false in
     part_move 0 0 (deed_from s) (length (fields_in s).deed) (ap (λ (t : Bool). choose t 5 0) g.not_got) (sym (ap (λ (f : Fields). length f.deed) g.no_fields)) (record { bytes = refl; block = refl; offset = omega arith })
 
-pub deed-spec : {M : Type 1} → statement M
-deed-spec =
+pub deed_spec : {M : Type 1} → statement M
+deed_spec =
     tie.close
     (tie.spec
-    survey-requires
-    add-end
-    sub-result
-    part-result-start
-    part-result-end
-    returns
-    slice-aggregate-result
+    survey-found-requires
+    overflow_add-end
+    slice_bounds-result-count
+    slice_bounds-result-start
+    slice_bounds-result-end
+    returns-then-found
+    slice_bounds-result-end-2
     returns-2)

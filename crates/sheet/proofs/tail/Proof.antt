@@ -16,47 +16,47 @@ use Rattle.sheet.proofs.tail.Statement.{statement}
 use Rattle.sheet.proofs.tail.Tie as tie
 
 -- the sheet is whole, and the annotation lines are its end
-found : (c : tie.Then1) → WholeGiven (read_sheet c.before.before.before.args.sheet.now) c.before.survey.result
-found c = whole_given (read_sheet c.before.before.before.args.sheet.now) c.before.survey.result c.before.survey.ensures c.if1.true
+found : (c : tie.Then-found) → WholeGiven (read_sheet c.before.before.before.args.sheet.now) c.before.survey-found.result
+found c = whole_given (read_sheet c.before.before.before.args.sheet.now) c.before.survey-found.result c.before.survey-found.ensures c.if-found.true
 
-inside : (c : tie.Then1) → c.before.survey.result.tail ≤ length c.before.before.before.args.sheet.now
+inside : (c : tie.Then-found) → c.before.survey-found.result.tail ≤ length c.before.before.before.args.sheet.now
 inside c = let g = found c in omega (arith, tail_size c.before.before.before.args.sheet.now g.is_got_lem, tail_at c.before.before.before.args.sheet.now g.is_got_lem, g.tail)
 
-survey-requires : tie.Need-survey-requires
-survey-requires c κs = search rules
+survey-found-requires : tie.Need-survey-found-requires
+survey-found-requires c κs = search rules
 
-sub-result : tie.Need-overflow-sub-result
-sub-result c = inside c
+slice_bounds-result-count : tie.Need-slice_bounds-result-count
+slice_bounds-result-count c = inside c
 
-part-result-start : tie.Need-slice-bounds-result-start
-part-result-start c = omega (arith, inside c)
+slice_bounds-result-start : tie.Need-slice_bounds-result-start
+slice_bounds-result-start c = omega (arith, inside c)
 
-part-result-end : tie.Need-slice-bounds-result-end
-part-result-end c = search rules
+slice_bounds-result-end : tie.Need-slice_bounds-result-end
+slice_bounds-result-end c = search rules
 
-returns : tie.Need-returns
-returns c =
+returns-then-found : tie.Need-returns-then-found
+returns-then-found c =
     let s = c.before.before.before.before.args.sheet.now in
     let g = found c.before in
-    part_move c.before.before.survey.result.tail (length s - c.before.before.survey.result.tail) (tail_from s) (length (lines (fields_in s).annotations)) (tail_at s g.is_got_lem ∙ sym g.tail) (omega (arith, tail_size s g.is_got_lem, tail_at s g.is_got_lem, g.tail)) (record { bytes = refl; block = refl; offset = refl })
+    part_move c.before.before.survey-found.result.tail (length s - c.before.before.survey-found.result.tail) (tail_from s) (length (lines (fields_in s).annotations)) (tail_at s g.is_got_lem ∙ sym g.tail) (omega (arith, tail_size s g.is_got_lem, tail_at s g.is_got_lem, g.tail)) (record { bytes = refl; block = refl; offset = refl })
 
-slice-aggregate-result : tie.Need-slice-aggregate-result
-slice-aggregate-result c = search rules
+slice_bounds-result-end-2 : tie.Need-slice_bounds-result-end-2
+slice_bounds-result-end-2 c = search rules
 
-returns-2 : tie.Need-returns-2
+returns-2 : tie.Need-returns
 returns-2 c =
     let s = c.before.before.before.before.args.sheet.now in
-    let g = broken_given (read_sheet s) c.before.before.survey.result c.before.before.survey.ensures c.before.if1.false in
+    let g = broken_given (read_sheet s) c.before.before.survey-found.result c.before.before.survey-found.ensures c.before.if-found.false in
     part_move 0 0 (tail_from s) (length (lines (fields_in s).annotations)) (ap (λ (t : Bool). choose t (length (front (fields_in s))) 0) g.not_got) (sym (ap (λ (f : Fields). length (lines f.annotations)) g.no_fields)) (record { bytes = refl; block = refl; offset = omega arith })
 
-pub tail-spec : {M : Type 1} → statement M
-tail-spec =
+pub tail_spec : {M : Type 1} → statement M
+tail_spec =
     tie.close
     (tie.spec
-    survey-requires
-    sub-result
-    part-result-start
-    part-result-end
-    returns
-    slice-aggregate-result
+    survey-found-requires
+    slice_bounds-result-count
+    slice_bounds-result-start
+    slice_bounds-result-end
+    returns-then-found
+    slice_bounds-result-end-2
     returns-2)

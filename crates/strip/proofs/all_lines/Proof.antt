@@ -4,35 +4,35 @@ use Rattle.strip.proofs.all_lines.Statement.{statement}
 use Rattle.strip.proofs.all_lines.Tie as tie
 
 -- where the function starts
-abbrev start_of : tie.After-one-stretch → tie.Start
+abbrev start_of : tie.After-one_stretch → tie.Start
 start_of c = c.before.before.before
 
-one-stretch-requires : tie.Need-one-stretch-requires
-one-stretch-requires c κs = search rules
+one_stretch-requires : tie.Need-one_stretch-requires
+one_stretch-requires c κs = search rules
 
 stretches-requires : tie.Need-stretches-requires
 stretches-requires c κs =
     let p = c.before.before in
     let b = start_of p in
-    (b.pre.0, b.pre.1, b.pre.2, sym p.one-stretch.ensures ∙ c.before.if1.true)
+    (b.requires.0, b.requires.1, b.requires.2, sym p.one_stretch.ensures ∙ c.before.if-one_stretch.true)
 
-same_length : tie.Need-same-length
-same_length c = search rules
+shape_of-strip-then-one_stretch : tie.Need-shape_of-strip-then-one_stretch
+shape_of-strip-then-one_stretch c = search rules
 
-returns : tie.Need-returns
-returns c = search rules
+returns-then-one_stretch : tie.Need-returns-then-one_stretch
+returns-then-one_stretch c = search rules
 
 runs-requires : tie.Need-runs-requires
 runs-requires c κs =
     let p = c.before.before in
     let b = start_of p in
-    (b.pre.0, b.pre.1, b.pre.2, sym p.one-stretch.ensures ∙ c.before.if1.false)
+    (b.requires.0, b.requires.1, b.requires.2, sym p.one_stretch.ensures ∙ c.before.if-one_stretch.false)
 
-same-length-2 : tie.Need-same-length-2
-same-length-2 c = search rules
+shape_of-strip : tie.Need-shape_of-strip
+shape_of-strip c = search rules
 
-returns-2 : tie.Need-returns-2
+returns-2 : tie.Need-returns
 returns-2 c = search rules
 
-pub all-lines-spec : {M : Type 1} → statement M
-all-lines-spec = tie.close (tie.spec one-stretch-requires stretches-requires same_length returns runs-requires same-length-2 returns-2)
+pub all_lines_spec : {M : Type 1} → statement M
+all_lines_spec = tie.close (tie.spec one_stretch-requires stretches-requires shape_of-strip-then-one_stretch returns-then-one_stretch runs-requires shape_of-strip returns-2)

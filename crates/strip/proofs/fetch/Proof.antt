@@ -9,36 +9,36 @@ use Rattle.strip.proofs.fetch.Tie as tie
 abbrev start_of : tie.After-number → tie.Start
 start_of c = c.before.before.before.before
 
-passed : (c : tie.Else1) → (told_of c.before.before.length-answer.result).number ≡ 0
-passed c = sym c.before.number.ensures ∙ c.if1.false
+passed : (c : tie.Else-number-ne0) → (told_of c.before.before.length_answer-answer.result).number ≡ 0
+passed c = sym c.before.number.ensures ∙ c.if-number-ne0.false
 
-length-answer-requires : tie.Need-length-answer-requires
-length-answer-requires c κs = search rules
+length_answer-answer-requires : tie.Need-length_answer-answer-requires
+length_answer-answer-requires c κs = search rules
 
 number-requires : tie.Need-number-requires
 number-requires c κs = search rules
 
-returns : tie.Need-returns
-returns c =
+returns-then-number-ne0 : tie.Need-returns-then-number-ne0
+returns-then-number-ne0 c =
     let b = start_of c.before in
-    kept b.args.settings b.args.image.now b.args.strip.now c.before.before.length-answer.ensures (λ z. c.if1.true (c.before.number.ensures ∙ z))
+    kept b.args.settings b.args.image.now b.args.strip.now c.before.before.length_answer-answer.ensures (λ z. c.if-number-ne0.true (c.before.number.ensures ∙ z))
 
-all-lines-requires : tie.Need-all-lines-requires
-all-lines-requires c κs =
+all_lines-touched-requires : tie.Need-all_lines-touched-requires
+all_lines-touched-requires c κs =
     let b = start_of c.before.before in
-    let f = all_fits b.args.settings b.args.image.now b.args.strip.now c.before.before.before.length-answer.ensures (passed c.before) in
+    let f = all_fits b.args.settings b.args.image.now b.args.strip.now c.before.before.before.length_answer-answer.ensures (passed c.before) in
     (f.image_suits, f.strip_long, f.banks)
 
-same_length : tie.Need-same-length
-same_length c = search rules
+shape_of-strip : tie.Need-shape_of-strip
+shape_of-strip c = search rules
 
-returns-2 : tie.Need-returns-2
+returns-2 : tie.Need-returns
 returns-2 c =
     let e = c.before.before.before.before in
     let b = start_of e.before in
-    all_fetched b.args.settings b.args.image.now b.args.strip.now e.before.before.length-answer.ensures (passed e) c.before.before.all_lines.ensures.0 c.before.before.all_lines.ensures.1
+    all_fetched b.args.settings b.args.image.now b.args.strip.now e.before.before.length_answer-answer.ensures (passed e) c.before.before.all_lines-touched.ensures.0 c.before.before.all_lines-touched.ensures.1
 
 pub fetch_spec : {M : Type 1} → statement M
 fetch_spec =
     tie.close
-    (tie.spec length-answer-requires number-requires returns all-lines-requires same_length returns-2)
+    (tie.spec length_answer-answer-requires number-requires returns-then-number-ne0 all_lines-touched-requires shape_of-strip returns-2)

@@ -5,18 +5,18 @@ use Rattle.settings.proofs.Banks.{bit_lt, bank_shifted}
 use Rattle.strip.proofs.lacks.Statement.{statement}
 use Rattle.strip.proofs.lacks.Tie as tie
 
-bank-bit-requires : tie.Need-bank-bit-requires
-bank-bit-requires c κs = search rules
+bank_bit-bit-requires : tie.Need-bank_bit-bit-requires
+bank_bit-bit-requires c κs = search rules
 
-shr-bank : tie.Need-overflow-shr-bank
-shr-bank c = omega (arith, c.bank-bit.ensures, bit_lt c.before.args.settings)
+overflow_shr-bank : tie.Need-overflow_shr-bank
+overflow_shr-bank c = omega (arith, c.bank_bit-bit.ensures, bit_lt c.before.args.settings)
 
-shl-result : tie.Need-overflow-shl-result
-shl-result c = omega (arith, c.bank-bit.ensures, bit_lt c.before.args.settings)
+overflow_shl-result : tie.Need-overflow_shl-result
+overflow_shl-result c = omega (arith, c.bank_bit-bit.ensures, bit_lt c.before.args.settings)
 
 returns : tie.Need-returns
 unfolding missing
-returns c = rw (c.bank-bit.ensures, bank_shifted c.before.args.settings c.before.args.address)
+returns c = rw (c.bank_bit-bit.ensures, bank_shifted c.before.args.settings c.before.args.address)
 
-pub lacks-spec : {M : Type 1} → statement M
-lacks-spec = tie.close (tie.spec bank-bit-requires shr-bank shl-result returns)
+pub lacks_spec : {M : Type 1} → statement M
+lacks_spec = tie.close (tie.spec bank_bit-bit-requires overflow_shr-bank overflow_shl-result returns)

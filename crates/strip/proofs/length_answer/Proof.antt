@@ -8,29 +8,29 @@ use Rattle.strip.specs.Fetch.{fetch_order}
 use Rattle.strip.proofs.length_answer.Statement.{statement}
 use Rattle.strip.proofs.length_answer.Tie as tie
 
-strip-length-requires : tie.Need-strip-length-requires
-strip-length-requires c κs = search rules
+strip_length-requires : tie.Need-strip_length-requires
+strip_length-requires c κs = search rules
 
-pins-above-requires : tie.Need-pins-above-requires
-pins-above-requires c κs = search rules
+pins_above-answer-requires : tie.Need-pins_above-answer-requires
+pins_above-answer-requires c κs = search rules
 
-fast-rate-requires : tie.Need-fast-rate-requires
-fast-rate-requires c κs = search rules
+fast_rate-answer-requires : tie.Need-fast_rate-answer-requires
+fast_rate-answer-requires c κs = search rules
 
-image-length-requires : tie.Need-image-length-requires
-image-length-requires c κs = search rules
+image_length-answer-requires : tie.Need-image_length-answer-requires
+image_length-answer-requires c κs = search rules
 
-not-suited-requires : tie.Need-not-suited-requires
-not-suited-requires c κs = search rules
+not_suited-answer-requires : tie.Need-not_suited-answer-requires
+not_suited-answer-requires c κs = search rules
 
-short-strip-requires : tie.Need-short-strip-requires
-short-strip-requires c κs = search rules
+short_strip-answer-requires : tie.Need-short_strip-answer-requires
+short_strip-answer-requires c κs = search rules
 
-first-missing-requires : tie.Need-first-missing-requires
-first-missing-requires c κs = search rules
+first_missing-requires : tie.Need-first_missing-requires
+first_missing-requires c κs = search rules
 
-not-fitted-at-requires : tie.Need-not-fitted-at-requires
-not-fitted-at-requires c κs = search rules
+not_fitted_at-requires : tie.Need-not_fitted_at-requires
+not_fitted_at-requires c κs = search rules
 
 returns : tie.Need-returns
 returns c =
@@ -43,20 +43,20 @@ returns c =
     let wide = pins.before in
     let a = wide.before.before.args in
     let d = done (strip_length a.settings.look) in
-    let e : told_of c.not-fitted-at.result ≡ after_each (fetch_order a.settings a.image a.strip) d =
-    next _ (rw missing.first-missing.ensures at c.not-fitted-at.ensures) (next _ short.short-strip.ensures (next _ suited.not-suited.ensures (next _ long.image-length.ensures (next _ fast.fast-rate.ensures (next _ pins.pins-above.ensures (ap done wide.strip-length.ensures)))))) in
+    let e : told_of c.not_fitted_at.result ≡ after_each (fetch_order a.settings a.image a.strip) d =
+    next _ (rw missing.first_missing.ensures at c.not_fitted_at.ensures) (next _ short.short_strip-answer.ensures (next _ suited.not_suited-answer.ensures (next _ long.image_length-answer.ensures (next _ fast.fast_rate-answer.ensures (next _ pins.pins_above-answer.ensures (ap done wide.strip_length.ensures)))))) in
     e ∙ in_order d refl (fetch_order a.settings a.image a.strip) tt
 
-pub length-answer-spec : {M : Type 1} → statement M
-length-answer-spec =
+pub length_answer_spec : {M : Type 1} → statement M
+length_answer_spec =
     tie.close
     (tie.spec
-    strip-length-requires
-    pins-above-requires
-    fast-rate-requires
-    image-length-requires
-    not-suited-requires
-    short-strip-requires
-    first-missing-requires
-    not-fitted-at-requires
+    strip_length-requires
+    pins_above-answer-requires
+    fast_rate-answer-requires
+    image_length-answer-requires
+    not_suited-answer-requires
+    short_strip-answer-requires
+    first_missing-requires
+    not_fitted_at-requires
     returns)

@@ -3,14 +3,14 @@ use Rattle.std.proofs.Common.{rules}
 use Rattle.strip.proofs.not_fitted.Statement.{statement}
 use Rattle.strip.proofs.not_fitted.Tie as tie
 
-first-missing-requires : tie.Need-first-missing-requires
-first-missing-requires c κs = search rules
+first_missing-requires : tie.Need-first_missing-requires
+first_missing-requires c κs = search rules
 
-not-fitted-at-requires : tie.Need-not-fitted-at-requires
-not-fitted-at-requires c κs = search rules
+not_fitted_at-requires : tie.Need-not_fitted_at-requires
+not_fitted_at-requires c κs = search rules
 
 returns : tie.Need-returns
-returns c = rw c.before.first-missing.ensures at c.not-fitted-at.ensures
+returns c = rw c.before.first_missing.ensures at c.not_fitted_at.ensures
 
-pub not-fitted-spec : {M : Type 1} → statement M
-not-fitted-spec = tie.close (tie.spec first-missing-requires not-fitted-at-requires returns)
+pub not_fitted_spec : {M : Type 1} → statement M
+not_fitted_spec = tie.close (tie.spec first_missing-requires not_fitted_at-requires returns)

@@ -5,55 +5,55 @@ use Rattle.promises.proofs.Fills.{none, step, upto}
 use Rattle.strip.proofs.put_run.Statement.{statement}
 use Rattle.strip.proofs.put_run.Tie as tie
 
-abbrev invariant-loop : tie.invariant-loop
+abbrev invariant-loop : tie.invariant-loop-j
 invariant-loop run strip₀ at j₀ strip j = (j ≤ 16) × Filled (λ (k : ℕ). get_or run (k - at) 0) at (at + j) strip₀ strip
 
-abbrev decreases-loop : tie.decreases-loop
+abbrev decreases-loop : tie.decreases-loop-j
 decreases-loop run strip₀ at j₀ strip j = 16 - j
 
-loop-holds : tie.Need-loop-init invariant-loop decreases-loop
-loop-holds c = (omega arith, upto (omega arith) (none _ _ _))
+loop-j-init : tie.Need-loop-j-init invariant-loop decreases-loop
+loop-j-init c = (omega arith, upto (omega arith) (none _ _ _))
 
-element-copy-out-strip : tie.Need-element-copy-out-strip invariant-loop decreases-loop
-element-copy-out-strip c = omega arith
+bounds-run-j : tie.Need-bounds-run-j invariant-loop decreases-loop
+bounds-run-j c = omega arith
 
-add-strip : tie.Need-overflow-add-strip invariant-loop decreases-loop
-add-strip c = omega arith
+overflow_add-strip : tie.Need-overflow_add-strip invariant-loop decreases-loop
+overflow_add-strip c = omega arith
 
-slice-write-strip : tie.Need-slice-write-strip invariant-loop decreases-loop
-slice-write-strip c = omega (arith, c.before.before.loop.invariant.1.long)
+bounds-strip-at : tie.Need-bounds-strip-at invariant-loop decreases-loop
+bounds-strip-at c = omega (arith, c.before.before.loop-j.invariant.1.long)
 
-add-j : tie.Need-overflow-add-j invariant-loop decreases-loop
-add-j c = omega arith
+overflow_add-j : tie.Need-overflow_add-j invariant-loop decreases-loop
+overflow_add-j c = omega arith
 
-loop-less : tie.Need-loop-smaller invariant-loop decreases-loop
-loop-less c = omega arith
+loop-j-smaller : tie.Need-loop-j-smaller invariant-loop decreases-loop
+loop-j-smaller c = omega arith
 
-loop-again : tie.Need-loop-preserved invariant-loop decreases-loop
-loop-again c = (
+loop-j-preserved : tie.Need-loop-j-preserved invariant-loop decreases-loop
+loop-j-preserved c = (
   omega arith,
-  step _ _ c.before.before.loop.invariant.1 (omega (arith, c.before.before.loop.invariant.1.long))
+  step _ _ c.before.before.loop-j.invariant.1 (omega (arith, c.before.before.loop-j.invariant.1.long))
       (ap (λ (j : ℕ). get_or c.before.before.before.args.run.now j 0) (omega arith)),
 )
 
-same_length : tie.Need-same-length invariant-loop decreases-loop
-same_length c = c.before.loop.invariant.1.long
+shape_of-strip : tie.Need-shape_of-strip invariant-loop decreases-loop
+shape_of-strip c = c.before.loop-j.invariant.1.long
 
 returns : tie.Need-returns invariant-loop decreases-loop
-returns c = upto (omega arith) c.before.loop.invariant.1
+returns c = upto (omega arith) c.before.loop-j.invariant.1
 
-pub put-run-spec : {M : Type 1} → statement M
-put-run-spec =
+pub put_run_spec : {M : Type 1} → statement M
+put_run_spec =
     tie.close
     (tie.spec
     invariant-loop
     decreases-loop
-    loop-holds
-    element-copy-out-strip
-    add-strip
-    slice-write-strip
-    add-j
-    loop-less
-    loop-again
-    same_length
+    loop-j-init
+    bounds-run-j
+    overflow_add-strip
+    bounds-strip-at
+    overflow_add-j
+    loop-j-smaller
+    loop-j-preserved
+    shape_of-strip
     returns)

@@ -4,19 +4,19 @@ use Rattle.promises.proofs.Fills.{by}
 use Rattle.strip.proofs.read_run.Statement.{statement}
 use Rattle.strip.proofs.read_run.Tie as tie
 
-run-at-requires : tie.Need-run-at-requires
-run-at-requires c κs = search rules
+run_at-run-requires : tie.Need-run_at-run-requires
+run_at-run-requires c κs = search rules
 
-put-run-requires : tie.Need-put-run-requires
-put-run-requires c κs = search rules
+put_run-requires : tie.Need-put_run-requires
+put_run-requires c κs = search rules
 
-same_length : tie.Need-same-length
-same_length c = search rules
+shape_of-strip : tie.Need-shape_of-strip
+shape_of-strip c = search rules
 
 returns : tie.Need-returns
 returns c =
     let p = c.before.before.before.before.before in
-    (refl, by (λ k h l. p.run_at.ensures.is (k - p.before.before.before.args.at) zero-le (omega arith)) c.before.before.put-run.ensures)
+    (refl, by (λ k h l. p.run_at-run.ensures.is (k - p.before.before.before.args.at) zero-le (omega arith)) c.before.before.put_run.ensures)
 
-pub read-run-spec : {M : Type 1} → statement M
-read-run-spec = tie.close (tie.spec run-at-requires put-run-requires same_length returns)
+pub read_run_spec : {M : Type 1} → statement M
+read_run_spec = tie.close (tie.spec run_at-run-requires put_run-requires shape_of-strip returns)

@@ -5,47 +5,47 @@ use Rattle.promises.proofs.Fills.{none, more, upto}
 use Rattle.strip.proofs.run_at.Statement.{statement}
 use Rattle.strip.proofs.run_at.Tie as tie
 
-abbrev invariant-loop : tie.invariant-loop
+abbrev invariant-loop : tie.invariant-loop-j
 invariant-loop bytes from run₀ j₀ run j = (j ≤ 16) × Filled (λ (k : ℕ). get_or bytes (from + k) 0) 0 j run₀ run
 
-abbrev decreases-loop : tie.decreases-loop
+abbrev decreases-loop : tie.decreases-loop-j
 decreases-loop bytes from run₀ j₀ run j = 16 - j
 
-loop-holds : tie.Need-loop-init invariant-loop decreases-loop
-loop-holds c = (omega arith, none _ _ _)
+loop-j-init : tie.Need-loop-j-init invariant-loop decreases-loop
+loop-j-init c = (omega arith, none _ _ _)
 
-add-run : tie.Need-overflow-add-run invariant-loop decreases-loop
-add-run c = omega arith
+overflow_add-run : tie.Need-overflow_add-run invariant-loop decreases-loop
+overflow_add-run c = omega arith
 
-shared-slice-read-run : tie.Need-shared-slice-read-run invariant-loop decreases-loop
-shared-slice-read-run c = omega arith
+bounds-bytes-from : tie.Need-bounds-bytes-from invariant-loop decreases-loop
+bounds-bytes-from c = omega arith
 
-array-write-run : tie.Need-array-write-run invariant-loop decreases-loop
-array-write-run c = omega arith
+bounds-run-j : tie.Need-bounds-run-j invariant-loop decreases-loop
+bounds-run-j c = omega arith
 
-add-j : tie.Need-overflow-add-j invariant-loop decreases-loop
-add-j c = omega arith
+overflow_add-j : tie.Need-overflow_add-j invariant-loop decreases-loop
+overflow_add-j c = omega arith
 
-loop-less : tie.Need-loop-smaller invariant-loop decreases-loop
-loop-less c = omega arith
+loop-j-smaller : tie.Need-loop-j-smaller invariant-loop decreases-loop
+loop-j-smaller c = omega arith
 
-loop-again : tie.Need-loop-preserved invariant-loop decreases-loop
-loop-again c = (omega arith, more _ c.before.before.loop.invariant.1 (omega arith) (omega (arith, c.before.before.loop.invariant.1.long)) refl)
+loop-j-preserved : tie.Need-loop-j-preserved invariant-loop decreases-loop
+loop-j-preserved c = (omega arith, more _ c.before.before.loop-j.invariant.1 (omega arith) (omega (arith, c.before.before.loop-j.invariant.1.long)) refl)
 
 returns : tie.Need-returns invariant-loop decreases-loop
-returns c = upto (omega arith) c.before.loop.invariant.1
+returns c = upto (omega arith) c.before.loop-j.invariant.1
 
-pub run-at-spec : {M : Type 1} → statement M
-run-at-spec =
+pub run_at_spec : {M : Type 1} → statement M
+run_at_spec =
     tie.close
     (tie.spec
     invariant-loop
     decreases-loop
-    loop-holds
-    add-run
-    shared-slice-read-run
-    array-write-run
-    add-j
-    loop-less
-    loop-again
+    loop-j-init
+    overflow_add-run
+    bounds-bytes-from
+    bounds-run-j
+    overflow_add-j
+    loop-j-smaller
+    loop-j-preserved
     returns)

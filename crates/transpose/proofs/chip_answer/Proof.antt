@@ -11,18 +11,18 @@ use Rattle.transpose.proofs.chip_answer.Tie as tie
 fits-requires : tie.Need-fits-requires
 fits-requires c κs = search rules
 
-check-requires : tie.Need-check-requires
-check-requires c κs = search rules
+check-answer-requires : tie.Need-check-answer-requires
+check-answer-requires c κs = search rules
 
-check-requires-2 : tie.Need-check-requires-2
-check-requires-2 c κs = search rules
+check-answer-requires-2 : tie.Need-check-answer-requires-2
+check-answer-requires-2 c κs = search rules
 
 returns : tie.Need-returns
 unfolding chip_told
 returns c =
     let a = c.before.before.before.args in
-    let e : told_of c.check2.result ≡ after_each (chip_order a.k a.lent a.room) (done 0) = cc in
+    let e : told_of c.check-answer-2.result ≡ after_each (chip_order a.k a.lent a.room) (done 0) = cc in
     e ∙ in_order (done 0) refl (chip_order a.k a.lent a.room) tt
 
-pub chip-answer-spec : {M : Type 1} → statement M
-chip-answer-spec = tie.close (tie.spec fits-requires check-requires check-requires-2 returns)
+pub chip_answer_spec : {M : Type 1} → statement M
+chip_answer_spec = tie.close (tie.spec fits-requires check-answer-requires check-answer-requires-2 returns)

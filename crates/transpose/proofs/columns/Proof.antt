@@ -11,11 +11,11 @@ use Rattle.transpose.proofs.Transposings.{piece_more, piece_right}
 use Rattle.transpose.proofs.columns.Statement.{statement}
 use Rattle.transpose.proofs.columns.Tie as tie
 
-abbrev invariant-loop : tie.invariant-loop
+abbrev invariant-loop : tie.invariant-loop-row
 invariant-loop lent base side column room₀ row₀ room row =
     (row ≤ side) × (length room ≡ length room₀) × Carries (transposed_byte side lent) base side column row room₀ room
 
-abbrev decreases-loop : tie.decreases-loop
+abbrev decreases-loop : tie.decreases-loop-row
 decreases-loop lent base side column room₀ row₀ room row = side - row
 
 -- the bytes that this turn's piece begins and ends with lie within the bank, as it is lent and in the room
@@ -32,63 +32,63 @@ within side column row wide below = record {
 }
 
 -- where the function starts, from a turn of the loop
-abbrev start_of : tie.In-loop invariant-loop decreases-loop → tie.Start invariant-loop decreases-loop
+abbrev start_of : tie.In-loop-row invariant-loop decreases-loop → tie.Start invariant-loop decreases-loop
 start_of c = c.before.before.before.before
 
-here : (c : tie.In-loop invariant-loop decreases-loop) → Within (start_of c).args.side (start_of c).args.column c.before.loop.row
-here c = let a = start_of c in within a.args.side a.args.column c.before.loop.row a.pre.0.1 c.loop-test.true
+here : (c : tie.In-loop-row invariant-loop decreases-loop) → Within (start_of c).args.side (start_of c).args.column c.before.loop-row.row
+here c = let a = start_of c in within a.args.side a.args.column c.before.loop-row.row a.requires.0.1 c.loop-row-test.true
 
-loop-holds : tie.Need-loop-init invariant-loop decreases-loop
-loop-holds c = (omega arith, refl, λ old x. x)
+loop-row-init : tie.Need-loop-row-init invariant-loop decreases-loop
+loop-row-init c = (omega arith, refl, λ old x. x)
 
-mul-from : tie.Need-overflow-mul-from invariant-loop decreases-loop
-mul-from c = omega (arith, (here c).first, (start_of c).requires.1)
+overflow_mul-from : tie.Need-overflow_mul-from invariant-loop decreases-loop
+overflow_mul-from c = omega (arith, (here c).first, (start_of c).requires.1)
 
-add-from : tie.Need-overflow-add-from invariant-loop decreases-loop
-add-from c = omega (arith, (here c).first, (start_of c).requires.1)
+overflow_add-from : tie.Need-overflow_add-from invariant-loop decreases-loop
+overflow_add-from c = omega (arith, (here c).first, (start_of c).requires.1)
 
-add-from-2 : tie.Need-overflow-add-from-2 invariant-loop decreases-loop
-add-from-2 c = omega (arith, (here c).first, (start_of c).requires.1)
+overflow_add-from-in-loop-row : tie.Need-overflow_add-from-in-loop-row invariant-loop decreases-loop
+overflow_add-from-in-loop-row c = omega (arith, (here c).first, (start_of c).requires.1)
 
-mul_at : tie.Need-overflow-mul-at invariant-loop decreases-loop
-mul_at c = omega (arith, (here c).piece, (start_of c).requires.1)
+overflow_mul-at : tie.Need-overflow_mul-at invariant-loop decreases-loop
+overflow_mul-at c = omega (arith, (here c).piece, (start_of c).requires.1)
 
-add_at : tie.Need-overflow-add-at invariant-loop decreases-loop
-add_at c = omega (arith, (here c).piece, (start_of c).requires.1)
+overflow_add-at : tie.Need-overflow_add-at invariant-loop decreases-loop
+overflow_add-at c = omega (arith, (here c).piece, (start_of c).requires.1)
 
-add-at-2 : tie.Need-overflow-add-at-2 invariant-loop decreases-loop
-add-at-2 c = omega (arith, (here c).piece, (start_of c).requires.1)
+overflow_add-at-in-loop-row : tie.Need-overflow_add-at-in-loop-row invariant-loop decreases-loop
+overflow_add-at-in-loop-row c = omega (arith, (here c).piece, (start_of c).requires.1)
 
 piece-requires : tie.Need-piece-requires invariant-loop decreases-loop
 piece-requires c κs =
     let a = start_of c.before in
-    (a.pre.0.0, omega (arith, (here c.before).last, a.pre.1), omega (arith, (here c.before).piece, a.pre.1, c.before.before.loop.invariant.1))
+    (a.requires.0.0, omega (arith, (here c.before).last, a.requires.1), omega (arith, (here c.before).piece, a.requires.1, c.before.before.loop-row.invariant.1))
 
-add_row : tie.Need-overflow-add-row invariant-loop decreases-loop
-add_row c = omega arith
+overflow_add-row : tie.Need-overflow_add-row invariant-loop decreases-loop
+overflow_add-row c = omega arith
 
-loop-less : tie.Need-loop-smaller invariant-loop decreases-loop
-loop-less c = omega arith
+loop-row-smaller : tie.Need-loop-row-smaller invariant-loop decreases-loop
+loop-row-smaller c = omega arith
 
-loop-again : tie.Need-loop-preserved invariant-loop decreases-loop
-loop-again c =
+loop-row-preserved : tie.Need-loop-row-preserved invariant-loop decreases-loop
+loop-row-preserved c =
     let a = start_of c.before.before.before.before in
-    let l = c.before.before.before.before.before.loop in
+    let l = c.before.before.before.before.before.loop-row in
     let f = c.before.before.piece.ensures in
-    let below : l.row < a.args.side = c.before.before.before.before.loop-test.true in
+    let below : l.row < a.args.side = c.before.before.before.before.loop-row-test.true in
     let some : 0 < a.args.side = omega arith in (
       omega arith,
       f.long ∙ l.invariant.1,
-      λ old x. piece_more a.pre.0.1 below (l.invariant.2 old x) f (piece_right a.args.side a.args.base some a.pre.1.0 a.args.lent.now a.args.column l.row a.pre.0.1 below),
+      λ old x. piece_more a.requires.0.1 below (l.invariant.2 old x) f (piece_right a.args.side a.args.base some a.requires.1.0 a.args.lent.now a.args.column l.row a.requires.0.1 below),
     )
 
-same_length : tie.Need-same-length invariant-loop decreases-loop
-same_length c = c.before.loop.invariant.1
+shape_of-room : tie.Need-shape_of-room invariant-loop decreases-loop
+shape_of-room c = c.before.loop-row.invariant.1
 
 returns : tie.Need-returns invariant-loop decreases-loop
 returns c =
     let a = c.before.before.before.before in
-    let l = c.before.loop in
+    let l = c.before.loop-row in
     let all : l.row ≡ a.args.side = omega arith in
     rw all at l.invariant.2
 
@@ -98,16 +98,16 @@ columns_spec =
     (tie.spec
     invariant-loop
     decreases-loop
-    loop-holds
-    mul-from
-    add-from
-    add-from-2
-    mul_at
-    add_at
-    add-at-2
+    loop-row-init
+    overflow_mul-from
+    overflow_add-from
+    overflow_add-from-in-loop-row
+    overflow_mul-at
+    overflow_add-at
+    overflow_add-at-in-loop-row
     piece-requires
-    add_row
-    loop-less
-    loop-again
-    same_length
+    overflow_add-row
+    loop-row-smaller
+    loop-row-preserved
+    shape_of-room
     returns)

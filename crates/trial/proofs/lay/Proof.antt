@@ -6,49 +6,49 @@ use Rattle.trial.specs.Buffers.{laid}
 use Rattle.trial.proofs.lay.Statement.{statement}
 use Rattle.trial.proofs.lay.Tie as tie
 
-abbrev invariant-loop : tie.invariant-loop
+abbrev invariant-loop : tie.invariant-loop-i
 invariant-loop s₀ first times per i₀ s i = (i ≤ length s₀) × Filled (laid first times per) 0 i s₀ s
 
-abbrev decreases-loop : tie.decreases-loop
+abbrev decreases-loop : tie.decreases-loop-i
 decreases-loop s₀ first times per i₀ s i = length s₀ - i
 
-loop-holds : tie.Need-loop-init invariant-loop decreases-loop
-loop-holds c = (zero-le, none _ _ _)
+loop-i-init : tie.Need-loop-i-init invariant-loop decreases-loop
+loop-i-init c = (zero-le, none _ _ _)
 
 laid-requires : tie.Need-laid-requires invariant-loop decreases-loop
 laid-requires c κs = search rules
 
-slice-write-s : tie.Need-slice-write-s invariant-loop decreases-loop
-slice-write-s c = omega (arith, c.before.before.loop.invariant.1.long)
+bounds-s-i : tie.Need-bounds-s-i invariant-loop decreases-loop
+bounds-s-i c = omega (arith, c.before.before.loop-i.invariant.1.long)
 
-add-i : tie.Need-overflow-add-i invariant-loop decreases-loop
-add-i c = omega arith
+overflow_add-i : tie.Need-overflow_add-i invariant-loop decreases-loop
+overflow_add-i c = omega arith
 
-loop-less : tie.Need-loop-smaller invariant-loop decreases-loop
-loop-less c = omega arith
+loop-i-smaller : tie.Need-loop-i-smaller invariant-loop decreases-loop
+loop-i-smaller c = omega arith
 
-loop-again : tie.Need-loop-preserved invariant-loop decreases-loop
-loop-again c =
-    let v = c.before.before.loop.invariant in
+loop-i-preserved : tie.Need-loop-i-preserved invariant-loop decreases-loop
+loop-i-preserved c =
+    let v = c.before.before.loop-i.invariant in
     (omega (arith, v.1.long), more _ v.1 zero-le (omega (arith, v.1.long)) c.laid.ensures)
 
-same_length : tie.Need-same-length invariant-loop decreases-loop
-same_length c = c.before.loop.invariant.1.long
+shape_of-s : tie.Need-shape_of-s invariant-loop decreases-loop
+shape_of-s c = c.before.loop-i.invariant.1.long
 
 returns : tie.Need-returns invariant-loop decreases-loop
-returns c = filled_written (omega arith) (upto (omega (arith, c.before.loop.invariant.1.long)) c.before.loop.invariant.1)
+returns c = filled_written (omega arith) (upto (omega (arith, c.before.loop-i.invariant.1.long)) c.before.loop-i.invariant.1)
 
-pub lay-spec : {M : Type 1} → statement M
-lay-spec =
+pub lay_spec : {M : Type 1} → statement M
+lay_spec =
     tie.close
     (tie.spec
     invariant-loop
     decreases-loop
-    loop-holds
+    loop-i-init
     laid-requires
-    slice-write-s
-    add-i
-    loop-less
-    loop-again
-    same_length
+    bounds-s-i
+    overflow_add-i
+    loop-i-smaller
+    loop-i-preserved
+    shape_of-s
     returns)

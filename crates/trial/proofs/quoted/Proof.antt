@@ -3,38 +3,32 @@ use Rattle.std.proofs.Common.{◌-◌, ◌≤◌, length, rules}
 use Rattle.trial.proofs.quoted.Statement.{statement}
 use Rattle.trial.proofs.quoted.Tie as tie
 
-abbrev invariant-loop : tie.invariant-loop
+abbrev invariant-loop : tie.invariant-loop-i
 invariant-loop s i₀ t4 i = i ≤ length s
 
-abbrev decreases-loop : tie.decreases-loop
+abbrev decreases-loop : tie.decreases-loop-i
 decreases-loop s i₀ t4 i = length s - i
-
-slice-aggregate-say : tie.Need-slice-aggregate-say invariant-loop decreases-loop
-slice-aggregate-say c = search rules
 
 say-requires : tie.Need-say-requires invariant-loop decreases-loop
 say-requires c κs = search rules
 
-loop-holds : tie.Need-loop-init invariant-loop decreases-loop
-loop-holds c = search rules
+loop-i-init : tie.Need-loop-i-init invariant-loop decreases-loop
+loop-i-init c = search rules
 
-shared-slice-read-escape : tie.Need-shared-slice-read-escape invariant-loop decreases-loop
-shared-slice-read-escape c = search rules
+bounds-s-i : tie.Need-bounds-s-i invariant-loop decreases-loop
+bounds-s-i c = search rules
 
 escape-requires : tie.Need-escape-requires invariant-loop decreases-loop
 escape-requires c κs = search rules
 
-add-i : tie.Need-overflow-add-i invariant-loop decreases-loop
-add-i c = search rules
+overflow_add-i : tie.Need-overflow_add-i invariant-loop decreases-loop
+overflow_add-i c = search rules
 
-loop-less : tie.Need-loop-smaller invariant-loop decreases-loop
-loop-less c = search rules
+loop-i-smaller : tie.Need-loop-i-smaller invariant-loop decreases-loop
+loop-i-smaller c = search rules
 
-loop-again : tie.Need-loop-preserved invariant-loop decreases-loop
-loop-again c = search rules
-
-slice-aggregate-say-2 : tie.Need-slice-aggregate-say-2 invariant-loop decreases-loop
-slice-aggregate-say-2 c = search rules
+loop-i-preserved : tie.Need-loop-i-preserved invariant-loop decreases-loop
+loop-i-preserved c = search rules
 
 say-requires-2 : tie.Need-say-requires-2 invariant-loop decreases-loop
 say-requires-2 c κs = search rules
@@ -42,20 +36,18 @@ say-requires-2 c κs = search rules
 returns : tie.Need-returns invariant-loop decreases-loop
 returns c = search rules
 
-pub quoted-spec : {M : Type 1} → statement M
-quoted-spec =
+pub quoted_spec : {M : Type 1} → statement M
+quoted_spec =
     tie.close
     (tie.spec
     invariant-loop
     decreases-loop
-    slice-aggregate-say
     say-requires
-    loop-holds
-    shared-slice-read-escape
+    loop-i-init
+    bounds-s-i
     escape-requires
-    add-i
-    loop-less
-    loop-again
-    slice-aggregate-say-2
+    overflow_add-i
+    loop-i-smaller
+    loop-i-preserved
     say-requires-2
     returns)

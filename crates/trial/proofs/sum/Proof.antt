@@ -5,44 +5,44 @@ use Rattle.trial.proofs.Buffers.{sum_none, sum_more}
 use Rattle.trial.proofs.sum.Statement.{statement}
 use Rattle.trial.proofs.sum.Tie as tie
 
-abbrev invariant-loop : tie.invariant-loop
+abbrev invariant-loop : tie.invariant-loop-i
 invariant-loop s n₀ i₀ n i = (i ≤ length s) × (n < 65521) × (n ≡ sum_to s i)
 
-abbrev decreases-loop : tie.decreases-loop
+abbrev decreases-loop : tie.decreases-loop-i
 decreases-loop s n₀ i₀ n i = length s - i
 
-loop-holds : tie.Need-loop-init invariant-loop decreases-loop
-loop-holds c = (zero-le, omega arith, sym (sum_none _))
+loop-i-init : tie.Need-loop-i-init invariant-loop decreases-loop
+loop-i-init c = (zero-le, omega arith, sym (sum_none _))
 
-shared-slice-read-next-sum : tie.Need-shared-slice-read-next-sum invariant-loop decreases-loop
-shared-slice-read-next-sum c = omega arith
+bounds-s-i : tie.Need-bounds-s-i invariant-loop decreases-loop
+bounds-s-i c = omega arith
 
-next-sum-requires : tie.Need-next-sum-requires invariant-loop decreases-loop
-next-sum-requires c κs = search rules
+next_sum-n-requires : tie.Need-next_sum-n-requires invariant-loop decreases-loop
+next_sum-n-requires c κs = search rules
 
-add-i : tie.Need-overflow-add-i invariant-loop decreases-loop
-add-i c = omega arith
+overflow_add-i : tie.Need-overflow_add-i invariant-loop decreases-loop
+overflow_add-i c = omega arith
 
-loop-less : tie.Need-loop-smaller invariant-loop decreases-loop
-loop-less c = omega arith
+loop-i-smaller : tie.Need-loop-i-smaller invariant-loop decreases-loop
+loop-i-smaller c = omega arith
 
-loop-again : tie.Need-loop-preserved invariant-loop decreases-loop
-loop-again c =
-    (omega arith, omega (arith, c.next-sum.ensures), c.next-sum.ensures ∙ sum_more _ _ _ c.before.before.before.loop.invariant.2)
+loop-i-preserved : tie.Need-loop-i-preserved invariant-loop decreases-loop
+loop-i-preserved c =
+    (omega arith, omega (arith, c.next_sum-n.ensures), c.next_sum-n.ensures ∙ sum_more _ _ _ c.before.before.before.loop-i.invariant.2)
 
 returns : tie.Need-returns invariant-loop decreases-loop
-returns c = c.before.loop.invariant.2 ∙ ap (sum_to _) (omega arith)
+returns c = c.before.loop-i.invariant.2 ∙ ap (sum_to _) (omega arith)
 
-pub sum-spec : {M : Type 1} → statement M
-sum-spec =
+pub sum_spec : {M : Type 1} → statement M
+sum_spec =
     tie.close
     (tie.spec
     invariant-loop
     decreases-loop
-    loop-holds
-    shared-slice-read-next-sum
-    next-sum-requires
-    add-i
-    loop-less
-    loop-again
+    loop-i-init
+    bounds-s-i
+    next_sum-n-requires
+    overflow_add-i
+    loop-i-smaller
+    loop-i-preserved
     returns)

@@ -5,43 +5,43 @@ use Rattle.trial.proofs.Buffers.{unchanged_none, unchanged_more}
 use Rattle.trial.proofs.unchanged_from.Statement.{statement}
 use Rattle.trial.proofs.unchanged_from.Tie as tie
 
-abbrev invariant-loop : tie.invariant-loop
+abbrev invariant-loop : tie.invariant-loop-i
 invariant-loop s from₀ i₀ from i = (i ≤ length s) × (from ≡ unchanged_to s i)
 
-abbrev decreases-loop : tie.decreases-loop
+abbrev decreases-loop : tie.decreases-loop-i
 decreases-loop s from₀ i₀ from i = length s - i
 
-loop-holds : tie.Need-loop-init invariant-loop decreases-loop
-loop-holds c = (zero-le, sym (unchanged_none _))
+loop-i-init : tie.Need-loop-i-init invariant-loop decreases-loop
+loop-i-init c = (zero-le, sym (unchanged_none _))
 
-shared-slice-read-unchanged-past : tie.Need-shared-slice-read-unchanged-past invariant-loop decreases-loop
-shared-slice-read-unchanged-past c = omega arith
+bounds-s-i : tie.Need-bounds-s-i invariant-loop decreases-loop
+bounds-s-i c = omega arith
 
-unchanged-past-requires : tie.Need-unchanged-past-requires invariant-loop decreases-loop
-unchanged-past-requires c κs = omega arith
+unchanged_past-from-requires : tie.Need-unchanged_past-from-requires invariant-loop decreases-loop
+unchanged_past-from-requires c κs = omega arith
 
-add-i : tie.Need-overflow-add-i invariant-loop decreases-loop
-add-i c = omega arith
+overflow_add-i : tie.Need-overflow_add-i invariant-loop decreases-loop
+overflow_add-i c = omega arith
 
-loop-less : tie.Need-loop-smaller invariant-loop decreases-loop
-loop-less c = omega arith
+loop-i-smaller : tie.Need-loop-i-smaller invariant-loop decreases-loop
+loop-i-smaller c = omega arith
 
-loop-again : tie.Need-loop-preserved invariant-loop decreases-loop
-loop-again c = (omega arith, c.unchanged-past.ensures ∙ unchanged_more _ _ _ c.before.before.before.loop.invariant.1)
+loop-i-preserved : tie.Need-loop-i-preserved invariant-loop decreases-loop
+loop-i-preserved c = (omega arith, c.unchanged_past-from.ensures ∙ unchanged_more _ _ _ c.before.before.before.loop-i.invariant.1)
 
 returns : tie.Need-returns invariant-loop decreases-loop
-returns c = c.before.loop.invariant.1 ∙ ap (unchanged_to _) (omega arith)
+returns c = c.before.loop-i.invariant.1 ∙ ap (unchanged_to _) (omega arith)
 
-pub unchanged-from-spec : {M : Type 1} → statement M
-unchanged-from-spec =
+pub unchanged_from_spec : {M : Type 1} → statement M
+unchanged_from_spec =
     tie.close
     (tie.spec
     invariant-loop
     decreases-loop
-    loop-holds
-    shared-slice-read-unchanged-past
-    unchanged-past-requires
-    add-i
-    loop-less
-    loop-again
+    loop-i-init
+    bounds-s-i
+    unchanged_past-from-requires
+    overflow_add-i
+    loop-i-smaller
+    loop-i-preserved
     returns)

@@ -6,14 +6,14 @@ use Rattle.trial.proofs.unchanged_past.Tie as tie
 laid-requires : tie.Need-laid-requires
 laid-requires c κs = search rules
 
-returns : tie.Need-returns
-returns c = simp (eq-eqb _ _ (c.if1.true ∙ c.before.laid.ensures))
+returns-then-b-laid : tie.Need-returns-then-b-laid
+returns-then-b-laid c = simp (eq-eqb _ _ (c.if-b-laid.true ∙ c.before.laid.ensures))
 
-add-result : tie.Need-overflow-add-result
-add-result c = search rules
+overflow_add-result : tie.Need-overflow_add-result
+overflow_add-result c = search rules
 
-returns-2 : tie.Need-returns-2
-returns-2 c = simp (ne_eqb _ _ (λ e. c.if1.false (e ∙ sym c.before.laid.ensures)))
+returns-2 : tie.Need-returns
+returns-2 c = simp (ne_eqb _ _ (λ e. c.if-b-laid.false (e ∙ sym c.before.laid.ensures)))
 
-pub unchanged-past-spec : {M : Type 1} → statement M
-unchanged-past-spec = tie.close (tie.spec laid-requires returns add-result returns-2)
+pub unchanged_past_spec : {M : Type 1} → statement M
+unchanged_past_spec = tie.close (tie.spec laid-requires returns-then-b-laid overflow_add-result returns-2)

@@ -5,31 +5,31 @@ use Rattle.canvas.proofs.Signs.{here, wide, widens, negates, back, count, placed
 use Rattle.try_canvas.proofs.distance.Statement.{statement}
 use Rattle.try_canvas.proofs.distance.Tie as tie
 
-negative : (c : tie.Then1) → lt_z c.before.args.z (pos 0) ≡ true
-negative c = subst (λ (y : ℤ). lt_z y (pos 0) ≡ true) (wide c.before.args.z c.before.ranges.z) c.if1.true
+negative : (c : tie.Then-wide-lt0) → lt_z c.before.args.z (pos 0) ≡ true
+negative c = subst (λ (y : ℤ). lt_z y (pos 0) ≡ true) (wide c.before.args.z c.before.ranges.z) c.if-wide-lt0.true
 
-not_negative : (c : tie.Else1) → lt_z c.before.args.z (pos 0) ≡ false
-not_negative c = subst (λ (y : ℤ). lt_z y (pos 0) ≡ false) (wide c.before.args.z c.before.ranges.z) c.if1.false
+not_negative : (c : tie.Else-wide-lt0) → lt_z c.before.args.z (pos 0) ≡ false
+not_negative c = subst (λ (y : ℤ). lt_z y (pos 0) ≡ false) (wide c.before.args.z c.before.ranges.z) c.if-wide-lt0.false
 
-cast-wide : tie.Need-overflow-cast-wide
-cast-wide c = widens c.args.z c.ranges.z
+overflow_cast-wide : tie.Need-overflow_cast-wide
+overflow_cast-wide c = widens c.args.z c.ranges.z
 
-sub_back : tie.Need-overflow-sub-back
-sub_back c = negates c.before.args.z c.before.ranges.z
+overflow_sub-back : tie.Need-overflow_sub-back
+overflow_sub-back c = negates c.before.args.z c.before.ranges.z
 
-cast-result : tie.Need-overflow-cast-result
-cast-result c = count c.before.args.z c.before.ranges.z (back c.before.args.z c.before.ranges.z (negative c))
+overflow_cast-result : tie.Need-overflow_cast-result
+overflow_cast-result c = count c.before.args.z c.before.ranges.z (back c.before.args.z c.before.ranges.z (negative c))
 
-cast-result-2 : tie.Need-overflow-cast-result-2
-cast-result-2 c =
+overflow_cast-result-else-wide-lt0 : tie.Need-overflow_cast-result-else-wide-lt0
+overflow_cast-result-else-wide-lt0 c =
     count_start c.before.args.z c.before.ranges.z
     (wide c.before.args.z c.before.ranges.z ∙ sym (here c.before.args.z c.before.ranges.z) ∙ placed c.before.args.z c.before.ranges.z (not_negative c))
 
-returns : tie.Need-returns
-returns c = search rules
+returns-then-wide-lt0 : tie.Need-returns-then-wide-lt0
+returns-then-wide-lt0 c = search rules
 
-returns-2 : tie.Need-returns-2
-returns-2 c = search rules
+returns-else-wide-lt0 : tie.Need-returns-else-wide-lt0
+returns-else-wide-lt0 c = search rules
 
-pub distance-spec : {M : Type 1} → statement M
-distance-spec = tie.close (tie.spec cast-wide sub_back cast-result cast-result-2 returns returns-2)
+pub distance_spec : {M : Type 1} → statement M
+distance_spec = tie.close (tie.spec overflow_cast-wide overflow_sub-back overflow_cast-result overflow_cast-result-else-wide-lt0 returns-then-wide-lt0 returns-else-wide-lt0)

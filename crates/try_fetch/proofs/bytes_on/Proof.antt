@@ -4,31 +4,31 @@ use Prim.Native.Nat.{◌-◌}
 use Rattle.try_fetch.proofs.bytes_on.Statement.{statement}
 use Rattle.try_fetch.proofs.bytes_on.Tie as tie
 
-abbrev invariant-loop : tie.invariant-loop
+abbrev invariant-loop : tie.invariant-loop-i
 invariant-loop settings bytes counter₀ i₀ counter i = Unit {0}
 
-abbrev decreases-loop : tie.decreases-loop
+abbrev decreases-loop : tie.decreases-loop-i
 decreases-loop settings bytes counter₀ i₀ counter i = bytes - i
 
-loop-holds : tie.Need-loop-init invariant-loop decreases-loop
-loop-holds c = search rules
+loop-i-init : tie.Need-loop-i-init invariant-loop decreases-loop
+loop-i-init c = search rules
 
-advance-requires : tie.Need-advance-requires invariant-loop decreases-loop
-advance-requires c κs = search rules
+advance-counter-requires : tie.Need-advance-counter-requires invariant-loop decreases-loop
+advance-counter-requires c κs = search rules
 
-add-i : tie.Need-overflow-add-i invariant-loop decreases-loop
-add-i c = search rules
+overflow_add-i : tie.Need-overflow_add-i invariant-loop decreases-loop
+overflow_add-i c = search rules
 
-loop-less : tie.Need-loop-smaller invariant-loop decreases-loop
-loop-less c = search rules
+loop-i-smaller : tie.Need-loop-i-smaller invariant-loop decreases-loop
+loop-i-smaller c = search rules
 
-loop-again : tie.Need-loop-preserved invariant-loop decreases-loop
-loop-again c = search rules
+loop-i-preserved : tie.Need-loop-i-preserved invariant-loop decreases-loop
+loop-i-preserved c = search rules
 
 returns : tie.Need-returns invariant-loop decreases-loop
 returns c = search rules
 
-pub bytes-on-spec : {M : Type 1} → statement M
-bytes-on-spec =
+pub bytes_on_spec : {M : Type 1} → statement M
+bytes_on_spec =
     tie.close
-    (tie.spec invariant-loop decreases-loop loop-holds advance-requires add-i loop-less loop-again returns)
+    (tie.spec invariant-loop decreases-loop loop-i-init advance-counter-requires overflow_add-i loop-i-smaller loop-i-preserved returns)

@@ -7,51 +7,51 @@ use lib.ListN.{length}
 use Rattle.try_picture.proofs.vary.Statement.{statement}
 use Rattle.try_picture.proofs.vary.Tie as tie
 
-abbrev invariant-loop : tie.invariant-loop
+abbrev invariant-loop : tie.invariant-loop-i
 invariant-loop s₀ i₀ s i = length s ≡ length s₀
 
-abbrev decreases-loop : tie.decreases-loop
+abbrev decreases-loop : tie.decreases-loop-i
 decreases-loop s₀ i₀ s i = length s₀ - i
 
-loop-holds : tie.Need-loop-init invariant-loop decreases-loop
-loop-holds c = refl
+loop-i-init : tie.Need-loop-i-init invariant-loop decreases-loop
+loop-i-init c = refl
 
-add-s : tie.Need-overflow-add-s invariant-loop decreases-loop
-add-s c = omega arith
+overflow_add-s : tie.Need-overflow_add-s invariant-loop decreases-loop
+overflow_add-s c = omega arith
 
-cast-s : tie.Need-overflow-cast-s invariant-loop decreases-loop
-cast-s c = omega arith
+overflow_cast-s : tie.Need-overflow_cast-s invariant-loop decreases-loop
+overflow_cast-s c = omega arith
 
-slice-write-s : tie.Need-slice-write-s invariant-loop decreases-loop
-slice-write-s c = omega arith
+bounds-s-i : tie.Need-bounds-s-i invariant-loop decreases-loop
+bounds-s-i c = omega arith
 
-add-i : tie.Need-overflow-add-i invariant-loop decreases-loop
-add-i c = omega arith
+overflow_add-i : tie.Need-overflow_add-i invariant-loop decreases-loop
+overflow_add-i c = omega arith
 
-loop-less : tie.Need-loop-smaller invariant-loop decreases-loop
-loop-less c = omega arith
+loop-i-smaller : tie.Need-loop-i-smaller invariant-loop decreases-loop
+loop-i-smaller c = omega arith
 
-loop-again : tie.Need-loop-preserved invariant-loop decreases-loop
-loop-again c = search rules
+loop-i-preserved : tie.Need-loop-i-preserved invariant-loop decreases-loop
+loop-i-preserved c = search rules
 
-same_length : tie.Need-same-length invariant-loop decreases-loop
-same_length c = search rules
+shape_of-s : tie.Need-shape_of-s invariant-loop decreases-loop
+shape_of-s c = search rules
 
 returns : tie.Need-returns invariant-loop decreases-loop
 returns c = search rules
 
-pub vary-spec : {M : Type 1} → statement M
-vary-spec =
+pub vary_spec : {M : Type 1} → statement M
+vary_spec =
     tie.close
     (tie.spec
     invariant-loop
     decreases-loop
-    loop-holds
-    add-s
-    cast-s
-    slice-write-s
-    add-i
-    loop-less
-    loop-again
-    same_length
+    loop-i-init
+    overflow_add-s
+    overflow_cast-s
+    bounds-s-i
+    overflow_add-i
+    loop-i-smaller
+    loop-i-preserved
+    shape_of-s
     returns)

@@ -12,69 +12,69 @@ use Rattle.valid.proofs.first_not_valid.Statement.{statement}
 use Rattle.valid.proofs.first_not_valid.Tie as tie
 
 -- where the function starts; that the text is external; and how far the strip is searched, from behind that
-abbrev start_of : tie.Else1 → tie.Start
+abbrev start_of : tie.Else-not-external → tie.Start
 start_of c = c.before.before.before.before
 
-is-external : (c : tie.Else1) → external (start_of c).args.look ≡ true
-is-external c = sym c.before.external.ensures ∙ not-false _ c.if1.false
+is-external : (c : tie.Else-not-external) → external (start_of c).args.look ≡ true
+is-external c = sym c.before.external.ensures ∙ not-false _ c.if-not-external.false
 
-as-far : (c : tie.After-least) → let a = (start_of c.before).args in c.least.result ≡ reach a.look a.strip.now
-as-far c = c.least.ensures ∙ ap (λ (n : ℕ). min n (length (start_of c.before).args.strip.now)) c.before.before.before.strip-length.ensures
+as-far : (c : tie.After-least-n) → let a = (start_of c.before).args in c.least-n.result ≡ reach a.look a.strip.now
+as-far c = c.least-n.ensures ∙ ap (λ (n : ℕ). min n (length (start_of c.before).args.strip.now)) c.before.before.before.strip_length-total.ensures
 
 -- what the search found
-found : (c : tie.After-search) → let l = c.before.before.before in let a = (start_of l.before).args in
-    c.search.result ≡ first_where (high a.look a.strip.now) (reach a.look a.strip.now)
-found c = let l = c.before.before.before in let a = (start_of l.before).args in c.search.ensures ∙ ap (λ (n : ℕ). first_where (high a.look a.strip.now) n) (as-far l)
+found : (c : tie.After-search-k) → let l = c.before.before.before in let a = (start_of l.before).args in
+    c.search-k.result ≡ first_where (high a.look a.strip.now) (reach a.look a.strip.now)
+found c = let l = c.before.before.before in let a = (start_of l.before).args in c.search-k.ensures ∙ ap (λ (n : ℕ). first_where (high a.look a.strip.now) n) (as-far l)
 
-strip-length-requires : tie.Need-strip-length-requires
-strip-length-requires c κs = search rules
+strip_length-total-requires : tie.Need-strip_length-total-requires
+strip_length-total-requires c κs = search rules
 
 external-requires : tie.Need-external-requires
 external-requires c κs = search rules
 
-returns : tie.Need-returns
-returns c =
+returns-then-not-external : tie.Need-returns-then-not-external
+returns-then-not-external c =
     let a = c.before.before.before.before.args in
-    c.before.before.strip-length.ensures
-    ∙ sym (not_external a.look (λ (k : ℕ). get_or a.strip.now k 0) (sym c.before.external.ensures ∙ not-true _ c.if1.true))
+    c.before.before.strip_length-total.ensures
+    ∙ sym (not_external a.look (λ (k : ℕ). get_or a.strip.now k 0) (sym c.before.external.ensures ∙ not-true _ c.if-not-external.true))
 
-least-requires : tie.Need-least-requires
-least-requires c κs = search rules
+least-n-requires : tie.Need-least-n-requires
+least-n-requires c κs = search rules
 
-some-high-requires : tie.Need-some-high-requires
-some-high-requires c κs = search rules
+some_high-requires : tie.Need-some_high-requires
+some_high-requires c κs = search rules
 
-returns-2 : tie.Need-returns-2
-returns-2 c =
+returns-then-not-some_high : tie.Need-returns-then-not-some_high
+returns-then-not-some_high c =
     let l = c.before.before in
     let a = (start_of l.before).args in
-    l.before.before.before.strip-length.ensures ∙ none_high a.look a.strip.now (rw (as-far l) at (c.before.some-high.ensures (not-true _ c.if2.true)))
+    l.before.before.before.strip_length-total.ensures ∙ none_high a.look a.strip.now (rw (as-far l) at (c.before.some_high.ensures (not-true _ c.if-not-some_high.true)))
 
-search-requires : tie.Need-search-requires
-search-requires c κs = search rules
+search-k-requires : tie.Need-search-k-requires
+search-k-requires c κs = search rules
 
-returns-3 : tie.Need-returns-3
-returns-3 c =
+returns-then-k-n : tie.Need-returns-then-k-n
+returns-then-k-n c =
     let l = c.before.before.before.before in
     let a = (start_of l.before).args in
-    found c.before ∙ found_there a.look a.strip.now (is-external l.before) (rw (found c.before, as-far l) at c.if3.true)
+    found c.before ∙ found_there a.look a.strip.now (is-external l.before) (rw (found c.before, as-far l) at c.if-k-n.true)
 
-returns-4 : tie.Need-returns-4
-returns-4 c =
+returns-else-k-n : tie.Need-returns-else-k-n
+returns-else-k-n c =
     let l = c.before.before.before.before in
     let a = (start_of l.before).args in
-    l.before.before.before.strip-length.ensures ∙ found_none a.look a.strip.now (rw (found c.before, as-far l) at c.if3.false)
+    l.before.before.before.strip_length-total.ensures ∙ found_none a.look a.strip.now (rw (found c.before, as-far l) at c.if-k-n.false)
 
-pub first-not-valid-spec : {M : Type 1} → statement M
-first-not-valid-spec =
+pub first_not_valid_spec : {M : Type 1} → statement M
+first_not_valid_spec =
     tie.close
     (tie.spec
-    strip-length-requires
+    strip_length-total-requires
     external-requires
-    returns
-    least-requires
-    some-high-requires
-    returns-2
-    search-requires
-    returns-3
-    returns-4)
+    returns-then-not-external
+    least-n-requires
+    some_high-requires
+    returns-then-not-some_high
+    search-k-requires
+    returns-then-k-n
+    returns-else-k-n)

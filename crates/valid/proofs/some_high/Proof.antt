@@ -10,41 +10,41 @@ use Rattle.promises.proofs.Choices.{neither}
 use Rattle.valid.proofs.some_high.Statement.{statement}
 use Rattle.valid.proofs.some_high.Tie as tie
 
-abbrev invariant-loop : tie.invariant-loop
+abbrev invariant-loop : tie.invariant-loop-k
 invariant-loop strip n found₀ k₀ found k = (k ≤ n) × (found ≡ false → (j : ℕ) → j < k → leb 128 (get_or strip j 0) ≡ false)
 
-abbrev decreases-loop : tie.decreases-loop
+abbrev decreases-loop : tie.decreases-loop-k
 decreases-loop strip n found₀ k₀ found k = n - k
 
-loop-holds : tie.Need-loop-init invariant-loop decreases-loop
-loop-holds c = (omega arith, λ _. below_none _)
+loop-k-init : tie.Need-loop-k-init invariant-loop decreases-loop
+loop-k-init c = (omega arith, λ _. below_none _)
 
-shared-slice-read-found : tie.Need-shared-slice-read-found invariant-loop decreases-loop
-shared-slice-read-found c = omega arith
+bounds-strip-k : tie.Need-bounds-strip-k invariant-loop decreases-loop
+bounds-strip-k c = omega arith
 
-add-k : tie.Need-overflow-add-k invariant-loop decreases-loop
-add-k c = omega arith
+overflow_add-k : tie.Need-overflow_add-k invariant-loop decreases-loop
+overflow_add-k c = omega arith
 
-loop-less : tie.Need-loop-smaller invariant-loop decreases-loop
-loop-less c = omega arith
+loop-k-smaller : tie.Need-loop-k-smaller invariant-loop decreases-loop
+loop-k-smaller c = omega arith
 
-loop-again : tie.Need-loop-preserved invariant-loop decreases-loop
-loop-again c =
+loop-k-preserved : tie.Need-loop-k-preserved invariant-loop decreases-loop
+loop-k-preserved c =
     let l = c.before.before in
-    (omega arith, λ h. let e = neither l.loop.found _ h in below_more _ _ (l.loop.invariant.1 e.0) e.1)
+    (omega arith, λ h. let e = neither l.loop-k.found _ h in below_more _ _ (l.loop-k.invariant.1 e.0) e.1)
 
 returns : tie.Need-returns invariant-loop decreases-loop
-returns c = λ h j m. c.before.loop.invariant.1 h j (omega arith)
+returns c = λ h j m. c.before.loop-k.invariant.1 h j (omega arith)
 
-pub some-high-spec : {M : Type 1} → statement M
-some-high-spec =
+pub some_high_spec : {M : Type 1} → statement M
+some_high_spec =
     tie.close
     (tie.spec
     invariant-loop
     decreases-loop
-    loop-holds
-    shared-slice-read-found
-    add-k
-    loop-less
-    loop-again
+    loop-k-init
+    bounds-strip-k
+    overflow_add-k
+    loop-k-smaller
+    loop-k-preserved
     returns)

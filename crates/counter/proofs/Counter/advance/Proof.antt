@@ -7,16 +7,16 @@ use Rattle.counter.proofs.Counter.advance.Tie as tie
 carry-requires : tie.Need-carry-requires
 carry-requires c κs = search rules
 
-returns : tie.Need-returns
+returns-then-address-eq15 : tie.Need-returns-then-address-eq15
 unfolding advance
-returns c = simp (eq-eqb _ _ c.before.if1.true, c.carry.ensures)
+returns-then-address-eq15 c = simp (eq-eqb _ _ c.before.if-address-eq15.true, c.carry.ensures)
 
-wrapping-add-u16-requires : tie.Need-wrapping-add-u16-requires
-wrapping-add-u16-requires c κs = search rules
+wrapping_add_u16-requires : tie.Need-wrapping_add_u16-requires
+wrapping_add_u16-requires c κs = search rules
 
-returns-2 : tie.Need-returns-2
+returns-2 : tie.Need-returns
 unfolding advance
-returns-2 c = simp (ne_eqb _ _ c.before.if1.false, c.wrapping-add-u16.ensures)
+returns-2 c = simp (ne_eqb _ _ c.before.if-address-eq15.false, c.wrapping_add_u16.ensures)
 
-pub advance-spec : {M : Type 1} → statement M
-advance-spec = tie.close (tie.spec carry-requires returns wrapping-add-u16-requires returns-2)
+pub advance_spec : {M : Type 1} → statement M
+advance_spec = tie.close (tie.spec carry-requires returns-then-address-eq15 wrapping_add_u16-requires returns-2)

@@ -7,100 +7,100 @@ use Rattle.counter.proofs.Counter.carry.Statement.{statement}
 use Rattle.counter.proofs.Counter.carry.Tie as tie
 
 -- where the function starts, from the place past the X divider's test
-abbrev start_of : tie.Else1 → tie.Start
+abbrev start_of : tie.Else-x-times_x → tie.Start
 start_of c = c.before.before.before.before.before
 
 -- the dividers of the settings
-div-x : (c : tie.After-times-x) → c.times-x.result ≡ div_x c.before.before.before.before.args.settings
-div-x c = c.times-x.ensures ∙ ap (λ (v : ℕ). get_or times_x v 0) c.before.before.before.video-mode.ensures
+div-x : (c : tie.After-times_x) → c.times_x.result ≡ div_x c.before.before.before.before.args.settings
+div-x c = c.times_x.ensures ∙ ap (λ (v : ℕ). get_or times_x v 0) c.before.before.before.video_mode-v.ensures
 
-div-y : (c : tie.After-times-y) → c.times-y.result ≡ div_y (start_of c.before.before).args.settings
-div-y c = c.times-y.ensures ∙ ap (λ (v : ℕ). get_or times_y v 0) c.before.before.before.before.before.before.video-mode.ensures
+div-y : (c : tie.After-times_y) → c.times_y.result ≡ div_y (start_of c.before.before).args.settings
+div-y c = c.times_y.ensures ∙ ap (λ (v : ℕ). get_or times_y v 0) c.before.before.before.before.before.before.video_mode-v.ensures
 
 -- there the X divider is at its last count
-x-done : (c : tie.Else1) → ltb ((start_of c).args.self.x + 1) (div_x (start_of c).args.settings) ≡ false
-x-done c = le-ltb _ _ (rw (div-x c.before) at c.if1.false)
+x-done : (c : tie.Else-x-times_x) → ltb ((start_of c).args.self.x + 1) (div_x (start_of c).args.settings) ≡ false
+x-done c = le-ltb _ _ (rw (div-x c.before) at c.if-x-times_x.false)
 
 -- and past the Y divider's test that one is not
-y-counts : (c : tie.Then3) → (start_of c.before.before.before).args.self.y + 1 < div_y (start_of c.before.before.before).args.settings
-y-counts c = rw (div-y c.before) at c.if3.true
+y-counts : (c : tie.Then-y-times_y) → (start_of c.before.before.before).args.self.y + 1 < div_y (start_of c.before.before.before).args.settings
+y-counts c = rw (div-y c.before) at c.if-y-times_y.true
 
-video-mode-requires : tie.Need-video-mode-requires
-video-mode-requires c κs = search rules
+video_mode-v-requires : tie.Need-video_mode-v-requires
+video_mode-v-requires c κs = search rules
 
-mul-run : tie.Need-overflow-mul-run
-mul-run c = search rules
+overflow_mul-run : tie.Need-overflow_mul-run
+overflow_mul-run c = search rules
 
-wrapping-add-u16-requires : tie.Need-wrapping-add-u16-requires
-wrapping-add-u16-requires c κs = search rules
+wrapping_add_u16-next-requires : tie.Need-wrapping_add_u16-next-requires
+wrapping_add_u16-next-requires c κs = search rules
 
-cast-if1 : tie.Need-overflow-cast-if1
-cast-if1 c = search rules
+overflow_cast-x : tie.Need-overflow_cast-x
+overflow_cast-x c = search rules
 
-add-if1 : tie.Need-overflow-add-if1
-add-if1 c = search rules
+overflow_add-x : tie.Need-overflow_add-x
+overflow_add-x c = search rules
 
-times-x-requires : tie.Need-times-x-requires
-times-x-requires c κs = search rules
+times_x-requires : tie.Need-times_x-requires
+times_x-requires c κs = search rules
 
-add-t13 : tie.Need-overflow-add-t13
-add-t13 c = omega (arith, rw (div-x c.before) at c.if1.true, div_x_le c.before.before.before.before.before.args.settings)
+overflow_add-result : tie.Need-overflow_add-result
+overflow_add-result c = omega (arith, rw (div-x c.before) at c.if-x-times_x.true, div_x_le c.before.before.before.before.before.args.settings)
 
-returns : tie.Need-returns
+returns-then-x-times_x : tie.Need-returns-then-x-times_x
 unfolding carry
-returns c = simp (lt-ltb _ _ (rw (div-x c.before) at c.if1.true))
+returns-then-x-times_x c = simp (lt-ltb _ _ (rw (div-x c.before) at c.if-x-times_x.true))
 
-returns-2 : tie.Need-returns-2
+returns-then-run-eq0 : tie.Need-returns-then-run-eq0
 unfolding carry
-returns-2 c = simp (x-done c.before, eq-eqb _ _ c.if2.true, c.before.before.before.wrapping-add-u16.ensures)
+returns-then-run-eq0 c = simp (x-done c.before, eq-eqb _ _ c.if-run-eq0.true, c.before.before.before.wrapping_add_u16-next.ensures)
 
-cast-if3 : tie.Need-overflow-cast-if3
-cast-if3 c = search rules
+overflow_cast-y : tie.Need-overflow_cast-y
+overflow_cast-y c = search rules
 
-add-if3 : tie.Need-overflow-add-if3
-add-if3 c = search rules
+overflow_add-y : tie.Need-overflow_add-y
+overflow_add-y c = search rules
 
-times-y-requires : tie.Need-times-y-requires
-times-y-requires c κs = search rules
+times_y-requires : tie.Need-times_y-requires
+times_y-requires c κs = search rules
 
-sub-t14 : tie.Need-overflow-sub-t14
-sub-t14 c = search rules
+overflow_sub-result : tie.Need-overflow_sub-result
+overflow_sub-result c = search rules
 
-add-t15 : tie.Need-overflow-add-t15
-add-t15 c = omega (arith, y-counts c, div_y_le (start_of c.before.before.before).args.settings)
+overflow_add-result-then-y-times_y : tie.Need-overflow_add-result-then-y-times_y
+overflow_add-result-then-y-times_y c = omega (arith, y-counts c, div_y_le (start_of c.before.before.before).args.settings)
 
-returns-3 : tie.Need-returns-3
+returns-then-y-times_y : tie.Need-returns-then-y-times_y
 unfolding carry fall
-returns-3 c = simp (x-done c.before.before.before, ne_eqb _ _ c.before.before.if2.false, lt-ltb _ _ (y-counts c))
+returns-then-y-times_y c = simp (x-done c.before.before.before, ne_eqb _ _ c.before.before.if-run-eq0.false, lt-ltb _ _ (y-counts c))
 
-returns-4 : tie.Need-returns-4
+returns-4 : tie.Need-returns
 unfolding carry fall
 returns-4 c =
     let p = c.before.before.before in
     simp (
       x-done p,
-      ne_eqb _ _ c.before.before.if2.false,
-      le-ltb _ _ (rw (div-y c.before) at c.if3.false),
-      c.before.before.before.before.before.wrapping-add-u16.ensures,
-    ) (ap (λ (a : ℕ). counter a 0 0) (wrap_fall (run (start_of p).args.self) (omega arith) c.before.before.if2.false))
+      ne_eqb _ _ c.before.before.if-run-eq0.false,
+      le-ltb _ _ (rw (div-y c.before) at c.if-y-times_y.false),
+      c.before.before.before.before.before.wrapping_add_u16-next.ensures,
+    ) (ap (λ (a : ℕ). counter a 0 0) (wrap_fall (run (start_of p).args.self) (omega arith) c.before.before.if-run-eq0.false))
 
-pub carry-spec : {M : Type 1} → statement M
-carry-spec =
+pub carry_spec : {M : Type 1} → statement M
+carry_spec =
     tie.close
     (tie.spec
-    video-mode-requires
-    mul-run
-    wrapping-add-u16-requires
-    cast-if1
-    add-if1
-    times-x-requires
-    add-t13
-    returns
-    returns-2
-    cast-if3
-    add-if3
-    times-y-requires
-    sub-t14
-    add-t15
-    returns-3
+    video_mode-v-requires
+    overflow_mul-run
+    wrapping_add_u16-next-requires
+    overflow_cast-x
+    overflow_add-x
+    times_x-requires
+    overflow_add-result
+    returns-then-x-times_x
+    returns-then-run-eq0
+    overflow_cast-y
+    overflow_add-y
+    times_y-requires
+    overflow_sub-result
+    overflow_add-result-then-y-times_y
+    returns-then-y-times_y
     returns-4)

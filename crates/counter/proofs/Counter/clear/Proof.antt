@@ -7,40 +7,40 @@ use Rattle.counter.proofs.Counter.clear.Statement.{statement}
 use Rattle.counter.proofs.Counter.clear.Tie as tie
 
 -- the settings and the counter that the function is called with, and the one with its bits cleared
-abbrev cleared-of : tie.After-clearing-counts → tie.After-cleared
+abbrev cleared-of : tie.After-clearing_counts → tie.After-cleared-cleared
 cleared-of c = c.before.before.before
 
-abbrev settings : tie.After-clearing-counts → Settings
+abbrev settings : tie.After-clearing_counts → Settings
 settings c = (cleared-of c).before.args.settings
 
-abbrev self : tie.After-clearing-counts → Counter
+abbrev self : tie.After-clearing_counts → Counter
 self c = (cleared-of c).before.args.self
 
 -- the test is the definition's
-test-is : (c : tie.After-clearing-counts) {t : Bool}
-    → (c.clearing-counts.result && (eqb (b4 (self c)) 1 && eqb (b4 (cleared-of c).cleared.result) 0)) ≡ t
+test-is : (c : tie.After-clearing_counts) {t : Bool}
+    → (c.clearing_counts.result && (eqb (b4 (self c)) 1 && eqb (b4 (cleared-of c).cleared-cleared.result) 0)) ≡ t
     → (clearing_counts (settings c).rule && clears_set_b4 (settings c) (self c)) ≡ t
-test-is c h = sym (ap₂ (λ (t : Bool) (d : Counter). t && (eqb (b4 (self c)) 1 && eqb (b4 d) 0)) c.clearing-counts.ensures (cleared-of c).cleared.ensures) ∙ h
+test-is c h = sym (ap₂ (λ (t : Bool) (d : Counter). t && (eqb (b4 (self c)) 1 && eqb (b4 d) 0)) c.clearing_counts.ensures (cleared-of c).cleared-cleared.ensures) ∙ h
 
-cleared-requires : tie.Need-cleared-requires
-cleared-requires c κs = search rules
+cleared-cleared-requires : tie.Need-cleared-cleared-requires
+cleared-cleared-requires c κs = search rules
 
-clearing-counts-requires : tie.Need-clearing-counts-requires
-clearing-counts-requires c κs = search rules
+clearing_counts-requires : tie.Need-clearing_counts-requires
+clearing_counts-requires c κs = search rules
 
 fall-requires : tie.Need-fall-requires
 fall-requires c κs = search rules
 
-returns : tie.Need-returns
+returns-then-clearing_counts-drops : tie.Need-returns-then-clearing_counts-drops
 unfolding clear
-returns c =
+returns-then-clearing_counts-drops c =
     let p = c.before.before in
-    simp (test-is p c.before.if1.true) (c.fall.ensures ∙ ap (fall (settings p)) (cleared-of p).cleared.ensures)
+    simp (test-is p c.before.if-clearing_counts-drops.true) (c.fall.ensures ∙ ap (fall (settings p)) (cleared-of p).cleared-cleared.ensures)
 
-returns-2 : tie.Need-returns-2
+returns-2 : tie.Need-returns
 unfolding clear
-returns-2 c = let p = c.before in simp (test-is p c.if1.false) (cleared-of p).cleared.ensures
+returns-2 c = let p = c.before in simp (test-is p c.if-clearing_counts-drops.false) (cleared-of p).cleared-cleared.ensures
 
 pub clear_spec : {M : Type 1} → statement M
 clear_spec =
-    tie.close (tie.spec cleared-requires clearing-counts-requires fall-requires returns returns-2)
+    tie.close (tie.spec cleared-cleared-requires clearing_counts-requires fall-requires returns-then-clearing_counts-drops returns-2)

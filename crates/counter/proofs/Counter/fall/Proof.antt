@@ -6,44 +6,44 @@ use Rattle.counter.proofs.Counter.fall.Statement.{statement}
 use Rattle.counter.proofs.Counter.fall.Tie as tie
 
 -- the Y divider of the settings
-div-y : (c : tie.After-times-y) → c.times-y.result ≡ div_y c.before.before.args.settings
-div-y c = c.times-y.ensures ∙ ap (λ (v : ℕ). get_or times_y v 0) c.before.video-mode.ensures
+div-y : (c : tie.After-times_y) → c.times_y.result ≡ div_y c.before.before.args.settings
+div-y c = c.times_y.ensures ∙ ap (λ (v : ℕ). get_or times_y v 0) c.before.video_mode-v.ensures
 
-video-mode-requires : tie.Need-video-mode-requires
-video-mode-requires c κs = search rules
+video_mode-v-requires : tie.Need-video_mode-v-requires
+video_mode-v-requires c κs = search rules
 
-cast-if1 : tie.Need-overflow-cast-if1
-cast-if1 c = search rules
+overflow_cast-y : tie.Need-overflow_cast-y
+overflow_cast-y c = search rules
 
-add-if1 : tie.Need-overflow-add-if1
-add-if1 c = search rules
+overflow_add-y : tie.Need-overflow_add-y
+overflow_add-y c = search rules
 
-times-y-requires : tie.Need-times-y-requires
-times-y-requires c κs = search rules
+times_y-requires : tie.Need-times_y-requires
+times_y-requires c κs = search rules
 
-add-t9 : tie.Need-overflow-add-t9
-add-t9 c = omega (arith, rw (div-y c.before) at c.if1.true, div_y_le c.before.before.before.args.settings)
+overflow_add-result : tie.Need-overflow_add-result
+overflow_add-result c = omega (arith, rw (div-y c.before) at c.if-y-times_y.true, div_y_le c.before.before.before.args.settings)
 
-returns : tie.Need-returns
+returns-then-y-times_y : tie.Need-returns-then-y-times_y
 unfolding fall
-returns c = simp (lt-ltb _ _ (rw (div-y c.before) at c.if1.true))
+returns-then-y-times_y c = simp (lt-ltb _ _ (rw (div-y c.before) at c.if-y-times_y.true))
 
-wrapping-add-u16-requires : tie.Need-wrapping-add-u16-requires
-wrapping-add-u16-requires c κs = search rules
+wrapping_add_u16-requires : tie.Need-wrapping_add_u16-requires
+wrapping_add_u16-requires c κs = search rules
 
-returns-2 : tie.Need-returns-2
+returns-2 : tie.Need-returns
 unfolding fall
-returns-2 c = simp (le-ltb _ _ (rw (div-y c.before.before) at c.before.if1.false), c.wrapping-add-u16.ensures)
+returns-2 c = simp (le-ltb _ _ (rw (div-y c.before.before) at c.before.if-y-times_y.false), c.wrapping_add_u16.ensures)
 
-pub fall-spec : {M : Type 1} → statement M
-fall-spec =
+pub fall_spec : {M : Type 1} → statement M
+fall_spec =
     tie.close
     (tie.spec
-    video-mode-requires
-    cast-if1
-    add-if1
-    times-y-requires
-    add-t9
-    returns
-    wrapping-add-u16-requires
+    video_mode-v-requires
+    overflow_cast-y
+    overflow_add-y
+    times_y-requires
+    overflow_add-result
+    returns-then-y-times_y
+    wrapping_add_u16-requires
     returns-2)

@@ -9,47 +9,47 @@ use Rattle.frame.proofs.Stretches.{stretch_pos, stretch_le, dot_below}
 use Rattle.frame.proofs.graphics.copy.Statement.{statement}
 use Rattle.frame.proofs.graphics.copy.Tie as tie
 
-abbrev invariant-loop : tie.invariant-loop
+abbrev invariant-loop : tie.invariant-loop-t
 invariant-loop stretch table from frame₀ at t₀ frame t = (t ≤ 8 * stretch) × Filled (λ (k : ℕ). get_or table (from + (k - at) / stretch) 0) at (at + t) frame₀ frame
 
-abbrev decreases-loop : tie.decreases-loop
+abbrev decreases-loop : tie.decreases-loop-t
 decreases-loop stretch table from frame₀ at t₀ frame t = 8 * stretch - t
 
-loop-holds : tie.Need-loop-init invariant-loop decreases-loop
-loop-holds c = (omega arith, upto (omega arith) (none _ _ _))
+loop-t-init : tie.Need-loop-t-init invariant-loop decreases-loop
+loop-t-init c = (omega arith, upto (omega arith) (none _ _ _))
 
-mul-loop : tie.Need-overflow-mul-loop invariant-loop decreases-loop
-mul-loop c = omega (arith, stretch_le c.before.requires.0)
+overflow_mul-stretch : tie.Need-overflow_mul-stretch invariant-loop decreases-loop
+overflow_mul-stretch c = omega (arith, stretch_le c.before.requires.0)
 
-div-frame : tie.Need-nonzero-div-frame invariant-loop decreases-loop
-div-frame c = stretch_pos c.before.before.requires.0
+nonzero_div-frame : tie.Need-nonzero_div-frame invariant-loop decreases-loop
+nonzero_div-frame c = stretch_pos c.before.before.requires.0
 
-add-frame : tie.Need-overflow-add-frame invariant-loop decreases-loop
-add-frame c = omega (arith, dot_below c.before.before.requires.0 c.before.loop.t (omega arith))
+overflow_add-frame : tie.Need-overflow_add-frame invariant-loop decreases-loop
+overflow_add-frame c = omega (arith, dot_below c.before.before.requires.0 c.before.loop-t.t (omega arith))
 
-element-copy-out-frame : tie.Need-element-copy-out-frame invariant-loop decreases-loop
-element-copy-out-frame c = omega (arith, dot_below c.before.before.requires.0 c.before.loop.t (omega arith))
+bounds-table-from : tie.Need-bounds-table-from invariant-loop decreases-loop
+bounds-table-from c = omega (arith, dot_below c.before.before.requires.0 c.before.loop-t.t (omega arith))
 
-add-frame-2 : tie.Need-overflow-add-frame-2 invariant-loop decreases-loop
-add-frame-2 c = omega arith
+overflow_add-frame-in-loop-t : tie.Need-overflow_add-frame-in-loop-t invariant-loop decreases-loop
+overflow_add-frame-in-loop-t c = omega arith
 
-slice-write-frame : tie.Need-slice-write-frame invariant-loop decreases-loop
-slice-write-frame c = omega (arith, c.before.before.loop.invariant.1.long)
+bounds-frame-at : tie.Need-bounds-frame-at invariant-loop decreases-loop
+bounds-frame-at c = omega (arith, c.before.before.loop-t.invariant.1.long)
 
-add-t : tie.Need-overflow-add-t invariant-loop decreases-loop
-add-t c = omega arith
+overflow_add-t : tie.Need-overflow_add-t invariant-loop decreases-loop
+overflow_add-t c = omega arith
 
-loop-less : tie.Need-loop-smaller invariant-loop decreases-loop
-loop-less c = omega arith
+loop-t-smaller : tie.Need-loop-t-smaller invariant-loop decreases-loop
+loop-t-smaller c = omega arith
 
-loop-again : tie.Need-loop-preserved invariant-loop decreases-loop
-loop-again c = (omega arith, step _ _ c.before.before.loop.invariant.1 (omega (arith, c.before.before.loop.invariant.1.long)) (ap (λ (j : ℕ). get_or c.before.before.before.args.table.now (c.before.before.before.args.from + j / c.before.before.before.args.stretch) 0) (omega arith)))
+loop-t-preserved : tie.Need-loop-t-preserved invariant-loop decreases-loop
+loop-t-preserved c = (omega arith, step _ _ c.before.before.loop-t.invariant.1 (omega (arith, c.before.before.loop-t.invariant.1.long)) (ap (λ (j : ℕ). get_or c.before.before.before.args.table.now (c.before.before.before.args.from + j / c.before.before.before.args.stretch) 0) (omega arith)))
 
-same_length : tie.Need-same-length invariant-loop decreases-loop
-same_length c = c.before.loop.invariant.1.long
+shape_of-frame : tie.Need-shape_of-frame invariant-loop decreases-loop
+shape_of-frame c = c.before.loop-t.invariant.1.long
 
 returns : tie.Need-returns invariant-loop decreases-loop
-returns c = upto (omega arith) c.before.loop.invariant.1
+returns c = upto (omega arith) c.before.loop-t.invariant.1
 
 pub copy_spec : {M : Type 1} → statement M
 copy_spec =
@@ -57,15 +57,15 @@ copy_spec =
     (tie.spec
     invariant-loop
     decreases-loop
-    loop-holds
-    mul-loop
-    div-frame
-    add-frame
-    element-copy-out-frame
-    add-frame-2
-    slice-write-frame
-    add-t
-    loop-less
-    loop-again
-    same_length
+    loop-t-init
+    overflow_mul-stretch
+    nonzero_div-frame
+    overflow_add-frame
+    bounds-table-from
+    overflow_add-frame-in-loop-t
+    bounds-frame-at
+    overflow_add-t
+    loop-t-smaller
+    loop-t-preserved
+    shape_of-frame
     returns)

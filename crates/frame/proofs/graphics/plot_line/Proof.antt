@@ -11,105 +11,105 @@ use Rattle.frame.proofs.Stretches.{stretch_pos, stretch_le, byte_within, cell_wi
 use Rattle.frame.proofs.graphics.plot_line.Statement.{statement}
 use Rattle.frame.proofs.graphics.plot_line.Tie as tie
 
-abbrev invariant-loop : tie.invariant-loop
+abbrev invariant-loop : tie.invariant-loop-c
 invariant-loop stretch table strip n frame₀ width c₀ frame c = (c ≤ 32 / stretch) × Filled (plotted stretch table strip) (n * 256) (n * 256 + c * (8 * stretch)) frame₀ frame
 
-abbrev decreases-loop : tie.decreases-loop
+abbrev decreases-loop : tie.decreases-loop-c
 decreases-loop stretch table strip n frame₀ width c₀ frame c = 32 / stretch - c
 
-div-width : tie.Need-nonzero-div-width invariant-loop decreases-loop
-div-width c = stretch_pos c.before.before.requires.0
+nonzero_div-width : tie.Need-nonzero_div-width invariant-loop decreases-loop
+nonzero_div-width c = stretch_pos c.before.before.requires.0
 
-loop-holds : tie.Need-loop-init invariant-loop decreases-loop
-loop-holds c = (zero-le, upto (omega arith) (none _ _ _))
+loop-c-init : tie.Need-loop-c-init invariant-loop decreases-loop
+loop-c-init c = (zero-le, upto (omega arith) (none _ _ _))
 
 -- the byte's place in the strip, and its pixels' in the frame
-byte_at : (c : tie.In-loop invariant-loop decreases-loop) → let s = c.before.before.before.before in let n = s.args.n in let w = 32 / s.args.stretch in
-    (n * w + c.before.loop.c < 192 * w) × (n * w + c.before.loop.c < 6144)
-byte_at c = let s = c.before.before.before.before in byte_within s.requires.0 s.args.n c.before.loop.c s.requires.1 (omega arith)
+byte_at : (c : tie.In-loop-c invariant-loop decreases-loop) → let s = c.before.before.before.before in let n = s.args.n in let w = 32 / s.args.stretch in
+    (n * w + c.before.loop-c.c < 192 * w) × (n * w + c.before.loop-c.c < 6144)
+byte_at c = let s = c.before.before.before.before in byte_within s.requires.0 s.args.n c.before.loop-c.c s.requires.1 (omega arith)
 
-cell_at : (c : tie.After-copy-arg invariant-loop decreases-loop) → let l = c.before.before.before.before in let s = l.before.before.before in let d = 8 * s.args.stretch in s.args.n * 256 + l.loop.c * d + d ≤ frame_length
+cell_at : (c : tie.After-copy-arg-1 invariant-loop decreases-loop) → let l = c.before.before.before.before in let s = l.before.before.before in let d = 8 * s.args.stretch in s.args.n * 256 + l.loop-c.c * d + d ≤ frame_length
 cell_at c =
     let l = c.before.before.before.before in
     let s = l.before.before.before in
-    cell_within s.requires.0 s.args.n l.loop.c s.requires.1 (omega arith)
+    cell_within s.requires.0 s.args.n l.loop-c.c s.requires.1 (omega arith)
 
-mul_wide : tie.Need-overflow-mul-wide invariant-loop decreases-loop
-mul_wide c = omega (arith, byte_at c)
+overflow_mul-n : tie.Need-overflow_mul-n invariant-loop decreases-loop
+overflow_mul-n c = omega (arith, byte_at c)
 
-add_wide : tie.Need-overflow-add-wide invariant-loop decreases-loop
-add_wide c = omega (arith, byte_at c)
+overflow_add-n : tie.Need-overflow_add-n invariant-loop decreases-loop
+overflow_add-n c = omega (arith, byte_at c)
 
-shared-slice-read-wide : tie.Need-shared-slice-read-wide invariant-loop decreases-loop
-shared-slice-read-wide c = omega (arith, byte_at c.before, c.before.before.before.before.before.requires.2)
+bounds-strip-n : tie.Need-bounds-strip-n invariant-loop decreases-loop
+bounds-strip-n c = omega (arith, byte_at c.before, c.before.before.before.before.before.requires.2)
 
 wide-requires : tie.Need-wide-requires invariant-loop decreases-loop
 wide-requires c κs = search rules
 
-mul-copy : tie.Need-overflow-mul-copy invariant-loop decreases-loop
-mul-copy c = search rules
+overflow_mul-wide : tie.Need-overflow_mul-wide invariant-loop decreases-loop
+overflow_mul-wide c = search rules
 
-mul-copy-2 : tie.Need-overflow-mul-copy-2 invariant-loop decreases-loop
-mul-copy-2 c = omega arith
+overflow_mul-n-in-loop-c : tie.Need-overflow_mul-n-in-loop-c invariant-loop decreases-loop
+overflow_mul-n-in-loop-c c = omega arith
 
-mul-copy-3 : tie.Need-overflow-mul-copy-3 invariant-loop decreases-loop
-mul-copy-3 c = omega (arith, stretch_le c.before.before.before.before.before.before.before.requires.0)
+overflow_mul-stretch : tie.Need-overflow_mul-stretch invariant-loop decreases-loop
+overflow_mul-stretch c = omega (arith, stretch_le c.before.before.before.before.before.before.before.requires.0)
 
-mul-copy-4 : tie.Need-overflow-mul-copy-4 invariant-loop decreases-loop
-mul-copy-4 c = omega (arith, cell_at c)
+overflow_mul-c : tie.Need-overflow_mul-c invariant-loop decreases-loop
+overflow_mul-c c = omega (arith, cell_at c)
 
-add-copy : tie.Need-overflow-add-copy invariant-loop decreases-loop
-add-copy c = omega (arith, cell_at c)
+overflow_add-n-in-loop-c : tie.Need-overflow_add-n-in-loop-c invariant-loop decreases-loop
+overflow_add-n-in-loop-c c = omega (arith, cell_at c)
 
 copy-requires : tie.Need-copy-requires invariant-loop decreases-loop
-copy-requires c κs = (c.before.before.before.before.before.before.before.requires.0, omega (arith, c.before.wide.ensures), omega (arith, cell_at c, c.before.before.before.before.loop.invariant.1.long))
+copy-requires c κs = (c.before.before.before.before.before.before.before.requires.0, omega (arith, c.before.wide.ensures), omega (arith, cell_at c, c.before.before.before.before.loop-c.invariant.1.long))
 
-add-c : tie.Need-overflow-add-c invariant-loop decreases-loop
-add-c c = omega (arith, byte_at c.before.before.before.before.before.before)
+overflow_add-c : tie.Need-overflow_add-c invariant-loop decreases-loop
+overflow_add-c c = omega (arith, byte_at c.before.before.before.before.before.before)
 
-loop-less : tie.Need-loop-smaller invariant-loop decreases-loop
-loop-less c = omega arith
+loop-c-smaller : tie.Need-loop-c-smaller invariant-loop decreases-loop
+loop-c-smaller c = omega arith
 
-loop-again : tie.Need-loop-preserved invariant-loop decreases-loop
-loop-again c =
+loop-c-preserved : tie.Need-loop-c-preserved invariant-loop decreases-loop
+loop-c-preserved c =
     let l = c.before.before.before.before.before.before.before in
     let s = l.before.before.before in
     let w = c.before.before.before.before in (
       omega arith,
-      upto (cell_end s.requires.0 s.args.n l.loop.c)
-          (join (omega arith) (omega arith) l.loop.invariant.1
-          (by (cell s.requires.0 s.args.table.now s.args.strip.now s.args.n l.loop.c w.wide.result w.wide.ensures.0) c.before.before.copy.ensures)),
+      upto (cell_end s.requires.0 s.args.n l.loop-c.c)
+          (join (omega arith) (omega arith) l.loop-c.invariant.1
+          (by (cell s.requires.0 s.args.table.now s.args.strip.now s.args.n l.loop-c.c w.wide.result w.wide.ensures.0) c.before.before.copy.ensures)),
     )
 
-same_length : tie.Need-same-length invariant-loop decreases-loop
-same_length c = c.before.loop.invariant.1.long
+shape_of-frame : tie.Need-shape_of-frame invariant-loop decreases-loop
+shape_of-frame c = c.before.loop-c.invariant.1.long
 
 returns : tie.Need-returns invariant-loop decreases-loop
 returns c =
     let s = c.before.before.before.before in
-    let e : c.before.loop.c ≡ 32 / s.args.stretch = omega arith in
-    upto (ap (λ (j : ℕ). s.args.n * 256 + j * (8 * s.args.stretch)) e ∙ line_end s.requires.0 s.args.n) c.before.loop.invariant.1
+    let e : c.before.loop-c.c ≡ 32 / s.args.stretch = omega arith in
+    upto (ap (λ (j : ℕ). s.args.n * 256 + j * (8 * s.args.stretch)) e ∙ line_end s.requires.0 s.args.n) c.before.loop-c.invariant.1
 
-pub plot-line-spec : {M : Type 1} → statement M
-plot-line-spec =
+pub plot_line_spec : {M : Type 1} → statement M
+plot_line_spec =
     tie.close
     (tie.spec
     invariant-loop
     decreases-loop
-    div-width
-    loop-holds
-    mul_wide
-    add_wide
-    shared-slice-read-wide
+    nonzero_div-width
+    loop-c-init
+    overflow_mul-n
+    overflow_add-n
+    bounds-strip-n
     wide-requires
-    mul-copy
-    mul-copy-2
-    mul-copy-3
-    mul-copy-4
-    add-copy
+    overflow_mul-wide
+    overflow_mul-n-in-loop-c
+    overflow_mul-stretch
+    overflow_mul-c
+    overflow_add-n-in-loop-c
     copy-requires
-    add-c
-    loop-less
-    loop-again
-    same_length
+    overflow_add-c
+    loop-c-smaller
+    loop-c-preserved
+    shape_of-frame
     returns)

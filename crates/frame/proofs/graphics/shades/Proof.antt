@@ -7,37 +7,37 @@ use Rattle.frame.specs.Steps.{shade}
 use Rattle.frame.proofs.graphics.shades.Statement.{statement}
 use Rattle.frame.proofs.graphics.shades.Tie as tie
 
-css-requires : tie.Need-css-requires
-css-requires c κs = search rules
+css-colour-requires : tie.Need-css-colour-requires
+css-colour-requires c κs = search rules
 
-mul-colour : tie.Need-overflow-mul-colour
-mul-colour c = search rules
+overflow_mul-colour : tie.Need-overflow_mul-colour
+overflow_mul-colour c = search rules
 
 gm-requires : tie.Need-gm-requires
 gm-requires c κs = search rules
 
-by-bits-requires : tie.Need-by-bits-requires
-by-bits-requires c κs = search rules
+by_bits-requires : tie.Need-by_bits-requires
+by_bits-requires c κs = search rules
 
-by-pairs-requires : tie.Need-by-pairs-requires
-by-pairs-requires c κs = search rules
+by_pairs-requires : tie.Need-by_pairs-requires
+by_pairs-requires c κs = search rules
 
-returns : tie.Need-returns
+returns-then-gm-eq1 : tie.Need-returns-then-gm-eq1
 unfolding shade
-returns c = let g = c.before.before.before in by (λ k _ _. simp (eq-eqb _ _ (rw (g.gm.ensures, gm_low _) at c.before.before.if1.true), g.before.css.ensures)) c.by_bits.ensures
+returns-then-gm-eq1 c = let g = c.before.before.before in by (λ k _ _. simp (eq-eqb _ _ (rw (g.gm.ensures, gm_low _) at c.before.before.if-gm-eq1.true), g.before.css-colour.ensures)) c.by_bits.ensures
 
-returns-2 : tie.Need-returns-2
+returns-else-gm-eq1 : tie.Need-returns-else-gm-eq1
 unfolding shade
-returns-2 c = let g = c.before.before.before in by (λ k _ _. simp (ne_eqb _ _ (rw (g.gm.ensures, gm_low _) at c.before.before.if1.false), g.before.css.ensures)) c.by_pairs.ensures
+returns-else-gm-eq1 c = let g = c.before.before.before in by (λ k _ _. simp (ne_eqb _ _ (rw (g.gm.ensures, gm_low _) at c.before.before.if-gm-eq1.false), g.before.css-colour.ensures)) c.by_pairs.ensures
 
-pub shades-spec : {M : Type 1} → statement M
-shades-spec =
+pub shades_spec : {M : Type 1} → statement M
+shades_spec =
     tie.close
     (tie.spec
-    css-requires
-    mul-colour
+    css-colour-requires
+    overflow_mul-colour
     gm-requires
-    by-bits-requires
-    by-pairs-requires
-    returns
-    returns-2)
+    by_bits-requires
+    by_pairs-requires
+    returns-then-gm-eq1
+    returns-else-gm-eq1)

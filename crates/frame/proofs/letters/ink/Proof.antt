@@ -9,16 +9,16 @@ use Rattle.frame.proofs.letters.ink.Tie as tie
 css-requires : tie.Need-css-requires
 css-requires c κs = search rules
 
-mul-result : tie.Need-overflow-mul-result
-mul-result c = search rules
+overflow_mul-result : tie.Need-overflow_mul-result
+overflow_mul-result c = search rules
 
-returns : tie.Need-returns
+returns-then-b-lt128 : tie.Need-returns-then-b-lt128
 unfolding ink
-returns c = (simp (lt-ltb _ _ c.before.if1.true, c.css.ensures), omega (arith, c.css.ensures))
+returns-then-b-lt128 c = (simp (lt-ltb _ _ c.before.if-b-lt128.true, c.css.ensures), omega (arith, c.css.ensures))
 
-returns-2 : tie.Need-returns-2
+returns-2 : tie.Need-returns
 unfolding ink
-returns-2 c = (simp (le-ltb _ _ c.if1.false), omega arith)
+returns-2 c = (simp (le-ltb _ _ c.if-b-lt128.false), omega arith)
 
-pub ink-spec : {M : Type 1} → statement M
-ink-spec = tie.close (tie.spec css-requires mul-result returns returns-2)
+pub ink_spec : {M : Type 1} → statement M
+ink_spec = tie.close (tie.spec css-requires overflow_mul-result returns-then-b-lt128 returns-2)

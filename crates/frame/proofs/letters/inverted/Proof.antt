@@ -7,16 +7,16 @@ use Rattle.frame.proofs.letters.inverted.Tie as tie
 lower-requires : tie.Need-lower-requires
 lower-requires c κs = search rules
 
-returns : tie.Need-returns
+returns-then-lower : tie.Need-returns-then-lower
 unfolding inverted
-returns c = simp (rw c.before.lower.ensures at c.if1.true)
+returns-then-lower c = simp (rw c.before.lower.ensures at c.if-lower.true)
 
 wide-requires : tie.Need-wide-requires
 wide-requires c κs = search rules
 
-returns-2 : tie.Need-returns-2
+returns-2 : tie.Need-returns
 unfolding inverted
-returns-2 c = simp (rw c.before.before.lower.ensures at c.before.if1.false, c.wide.ensures.0)
+returns-2 c = simp (rw c.before.before.lower.ensures at c.before.if-lower.false, c.wide.ensures.0)
 
-pub inverted-spec : {M : Type 1} → statement M
-inverted-spec = tie.close (tie.spec lower-requires returns wide-requires returns-2)
+pub inverted_spec : {M : Type 1} → statement M
+inverted_spec = tie.close (tie.spec lower-requires returns-then-lower wide-requires returns-2)

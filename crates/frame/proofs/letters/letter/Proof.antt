@@ -17,14 +17,14 @@ within c = let s = c.before.before in (pattern_fits s.args.look s.args.b s.args.
 pattern-requires : tie.Need-pattern-requires
 pattern-requires c κs = search rules
 
-mul-dots : tie.Need-overflow-mul-dots
-mul-dots c = omega (arith, c.pattern.ensures, within c)
+overflow_mul-dots : tie.Need-overflow_mul-dots
+overflow_mul-dots c = omega (arith, c.pattern.ensures, within c)
 
-add-dots : tie.Need-overflow-add-dots
-add-dots c = omega (arith, c.pattern.ensures, within c)
+overflow_add-dots : tie.Need-overflow_add-dots
+overflow_add-dots c = omega (arith, c.pattern.ensures, within c)
 
-shared-slice-read-dots : tie.Need-shared-slice-read-dots
-shared-slice-read-dots c = omega (arith, c.before.pattern.ensures, within c.before)
+bounds-font-pattern : tie.Need-bounds-font-pattern
+bounds-font-pattern c = omega (arith, c.before.pattern.ensures, within c.before)
 
 inverted-requires : tie.Need-inverted-requires
 inverted-requires c κs = search rules
@@ -32,27 +32,27 @@ inverted-requires c κs = search rules
 gm-requires : tie.Need-gm-requires
 gm-requires c κs = search rules
 
-sub-result : tie.Need-overflow-sub-result
-sub-result c = omega (arith, c.before.before.before.shared-slice-known2.given (c.before.before.before.before.pattern.result * 12 + c.before.before.before.before.before.before.args.row))
+overflow_sub-result : tie.Need-overflow_sub-result
+overflow_sub-result c = omega (arith, c.before.before.before.shared_slice_known-2-1.given (c.before.before.before.before.pattern.result * 12 + c.before.before.before.before.before.before.args.row))
 
-returns : tie.Need-returns
+returns-then-inverted-gm : tie.Need-returns-then-inverted-gm
 unfolding letter
-returns c = simp (eq-eqb _ _ (rw (c.before.before.inverted.ensures, c.before.gm.ensures, gm_middle _) at c.if1.true), c.before.before.before.before.pattern.ensures)
+returns-then-inverted-gm c = simp (eq-eqb _ _ (rw (c.before.before.inverted.ensures, c.before.gm.ensures, gm_middle _) at c.if-inverted-gm.true), c.before.before.before.before.pattern.ensures)
 
-returns-2 : tie.Need-returns-2
+returns-else-inverted-gm : tie.Need-returns-else-inverted-gm
 unfolding letter
-returns-2 c = simp (ne_eqb _ _ (rw (c.before.before.inverted.ensures, c.before.gm.ensures, gm_middle _) at c.if1.false), c.before.before.before.before.pattern.ensures)
+returns-else-inverted-gm c = simp (ne_eqb _ _ (rw (c.before.before.inverted.ensures, c.before.gm.ensures, gm_middle _) at c.if-inverted-gm.false), c.before.before.before.before.pattern.ensures)
 
-pub letter-spec : {M : Type 1} → statement M
-letter-spec =
+pub letter_spec : {M : Type 1} → statement M
+letter_spec =
     tie.close
     (tie.spec
     pattern-requires
-    mul-dots
-    add-dots
-    shared-slice-read-dots
+    overflow_mul-dots
+    overflow_add-dots
+    bounds-font-pattern
     inverted-requires
     gm-requires
-    sub-result
-    returns
-    returns-2)
+    overflow_sub-result
+    returns-then-inverted-gm
+    returns-else-inverted-gm)

@@ -8,8 +8,8 @@ use Rattle.frame.proofs.letters.pattern.Statement.{statement}
 use Rattle.frame.proofs.letters.pattern.Tie as tie
 
 -- past the test the text is internal
-internal : (c : tie.Else1) → external c.before.before.args.look ≡ false
-internal c = rw c.before.external.ensures at c.if1.false
+internal : (c : tie.Else-external) → external c.before.before.args.look ≡ false
+internal c = rw c.before.external.ensures at c.if-external.false
 
 external-requires : tie.Need-external-requires
 external-requires c κs = search rules
@@ -17,40 +17,40 @@ external-requires c κs = search rules
 wide-requires : tie.Need-wide-requires
 wide-requires c κs = search rules
 
-returns : tie.Need-returns
+returns-then-external : tie.Need-returns-then-external
 unfolding pattern
-returns c = rw (rw c.before.before.external.ensures at c.before.if1.true, c.wide.ensures.0)
+returns-then-external c = rw (rw c.before.before.external.ensures at c.before.if-external.true, c.wide.ensures.0)
 
 lower-requires : tie.Need-lower-requires
 lower-requires c κs = search rules
 
-wide-requires-2 : tie.Need-wide-requires-2
-wide-requires-2 c κs = search rules
+wide-requires-then-lower : tie.Need-wide-requires-then-lower
+wide-requires-then-lower c κs = search rules
 
-add-result : tie.Need-overflow-add-result
-add-result c = search rules
+overflow_add-result : tie.Need-overflow_add-result
+overflow_add-result c = search rules
 
-wide-requires-3 : tie.Need-wide-requires-3
-wide-requires-3 c κs = search rules
+wide-requires-else-lower : tie.Need-wide-requires-else-lower
+wide-requires-else-lower c κs = search rules
 
-returns-2 : tie.Need-returns-2
+returns-then-lower : tie.Need-returns-then-lower
 unfolding pattern
-returns-2 c = rw (rw c.before.before.lower.ensures at c.before.if2.true, internal c.before.before.before, c.wide2.ensures.0)
+returns-then-lower c = rw (rw c.before.before.lower.ensures at c.before.if-lower.true, internal c.before.before.before, c.wide-then-lower.ensures.0)
 
-returns-3 : tie.Need-returns-3
+returns-else-lower : tie.Need-returns-else-lower
 unfolding pattern
-returns-3 c = rw (rw c.before.before.lower.ensures at c.before.if2.false, internal c.before.before.before, c.wide3.ensures.0)
+returns-else-lower c = rw (rw c.before.before.lower.ensures at c.before.if-lower.false, internal c.before.before.before, c.wide-else-lower.ensures.0)
 
-pub pattern-spec : {M : Type 1} → statement M
-pattern-spec =
+pub pattern_spec : {M : Type 1} → statement M
+pattern_spec =
     tie.close
     (tie.spec
     external-requires
     wide-requires
-    returns
+    returns-then-external
     lower-requires
-    wide-requires-2
-    add-result
-    wide-requires-3
-    returns-2
-    returns-3)
+    wide-requires-then-lower
+    overflow_add-result
+    wide-requires-else-lower
+    returns-then-lower
+    returns-else-lower)

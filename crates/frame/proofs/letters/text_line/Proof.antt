@@ -11,100 +11,100 @@ use Rattle.frame.proofs.Tints.{typed_cell}
 use Rattle.frame.proofs.letters.text_line.Statement.{statement}
 use Rattle.frame.proofs.letters.text_line.Tie as tie
 
-abbrev invariant-loop : tie.invariant-loop
+abbrev invariant-loop : tie.invariant-loop-c
 invariant-loop look masks glyphs strip n frame₀ row c₀ frame c = (c ≤ 32) × Filled (typed look glyphs strip) (n * 256) (n * 256 + c * 8) frame₀ frame
 
-abbrev decreases-loop : tie.decreases-loop
+abbrev decreases-loop : tie.decreases-loop-c
 decreases-loop look masks glyphs strip n frame₀ row c₀ frame c = 32 - c
 
 -- the turn of the loop, from behind the ink
-abbrev turn : tie.After-ink invariant-loop decreases-loop → tie.At-loop invariant-loop decreases-loop
+abbrev turn : tie.After-ink invariant-loop decreases-loop → tie.At-loop-c invariant-loop decreases-loop
 turn c = c.before.before.before.before.before
 
-loop-holds : tie.Need-loop-init invariant-loop decreases-loop
-loop-holds c = (omega arith, upto (omega arith) (none _ _ _))
+loop-c-init : tie.Need-loop-c-init invariant-loop decreases-loop
+loop-c-init c = (omega arith, upto (omega arith) (none _ _ _))
 
-mul-b : tie.Need-overflow-mul-b invariant-loop decreases-loop
-mul-b c = omega arith
+overflow_mul-b : tie.Need-overflow_mul-b invariant-loop decreases-loop
+overflow_mul-b c = omega arith
 
-add-b : tie.Need-overflow-add-b invariant-loop decreases-loop
-add-b c = omega arith
+overflow_add-b : tie.Need-overflow_add-b invariant-loop decreases-loop
+overflow_add-b c = omega arith
 
-shared-slice-read-b : tie.Need-shared-slice-read-b invariant-loop decreases-loop
-shared-slice-read-b c = omega arith
+bounds-strip-n : tie.Need-bounds-strip-n invariant-loop decreases-loop
+bounds-strip-n c = omega arith
 
 wide-requires : tie.Need-wide-requires invariant-loop decreases-loop
 wide-requires c κs = search rules
 
-mul-tint : tie.Need-overflow-mul-tint invariant-loop decreases-loop
-mul-tint c = omega arith
+overflow_mul-wide : tie.Need-overflow_mul-wide invariant-loop decreases-loop
+overflow_mul-wide c = omega arith
 
-add-tint : tie.Need-overflow-add-tint invariant-loop decreases-loop
-add-tint c = omega arith
+overflow_add-wide : tie.Need-overflow_add-wide invariant-loop decreases-loop
+overflow_add-wide c = omega arith
 
-element-copy-out-tint : tie.Need-element-copy-out-tint invariant-loop decreases-loop
-element-copy-out-tint c = omega (arith, c.wide.ensures)
+bounds-glyphs-wide : tie.Need-bounds-glyphs-wide invariant-loop decreases-loop
+bounds-glyphs-wide c = omega (arith, c.wide.ensures)
 
 ink-requires : tie.Need-ink-requires invariant-loop decreases-loop
 ink-requires c κs = search rules
 
-mul-tint-2 : tie.Need-overflow-mul-tint-2 invariant-loop decreases-loop
-mul-tint-2 c = omega arith
+overflow_mul-n : tie.Need-overflow_mul-n invariant-loop decreases-loop
+overflow_mul-n c = omega arith
 
-mul-tint-3 : tie.Need-overflow-mul-tint-3 invariant-loop decreases-loop
-mul-tint-3 c = omega arith
+overflow_mul-c : tie.Need-overflow_mul-c invariant-loop decreases-loop
+overflow_mul-c c = omega arith
 
-add-tint-2 : tie.Need-overflow-add-tint-2 invariant-loop decreases-loop
-add-tint-2 c = omega arith
+overflow_add-n : tie.Need-overflow_add-n invariant-loop decreases-loop
+overflow_add-n c = omega arith
 
 tint-requires : tie.Need-tint-requires invariant-loop decreases-loop
-tint-requires c κs = ((c.before.ink.ensures.1, omega (arith, (turn c.before).loop.inv.1.long)), (turn c.before).before.before.before.pre.1)
+tint-requires c κs = ((c.before.ink.ensures.1, omega (arith, (turn c.before).loop-c.inv.1.long)), (turn c.before).before.before.before.requires.1)
 
-add-c : tie.Need-overflow-add-c invariant-loop decreases-loop
-add-c c = omega arith
+overflow_add-c : tie.Need-overflow_add-c invariant-loop decreases-loop
+overflow_add-c c = omega arith
 
-loop-less : tie.Need-loop-smaller invariant-loop decreases-loop
-loop-less c = omega arith
+loop-c-smaller : tie.Need-loop-c-smaller invariant-loop decreases-loop
+loop-c-smaller c = omega arith
 
-loop-again : tie.Need-loop-preserved invariant-loop decreases-loop
-loop-again c =
+loop-c-preserved : tie.Need-loop-c-preserved invariant-loop decreases-loop
+loop-c-preserved c =
     let i = c.before.before.before.before in
     let l = turn i in
     let s = l.before.before.before in
     let w = i.before.before in (
       omega arith,
       upto (omega arith)
-          (join {n = s.args.n * 256 + l.loop.c * 8 + 8} (omega arith) (omega arith) l.loop.inv.1
-          (by (typed_cell s.args.look s.args.glyphs.now s.args.strip.now s.args.n l.loop.c i.ink.result _ (omega arith) i.ink.ensures.0 (ap (λ (j : ℕ). get_or s.args.glyphs.now (j * 12 + s.args.n % 12) 0) w.wide.ensures.0)) c.before.before.tint.ensures)),
+          (join {n = s.args.n * 256 + l.loop-c.c * 8 + 8} (omega arith) (omega arith) l.loop-c.inv.1
+          (by (typed_cell s.args.look s.args.glyphs.now s.args.strip.now s.args.n l.loop-c.c i.ink.result _ (omega arith) i.ink.ensures.0 (ap (λ (j : ℕ). get_or s.args.glyphs.now (j * 12 + s.args.n % 12) 0) w.wide.ensures.0)) c.before.before.tint.ensures)),
     )
 
-same_length : tie.Need-same-length invariant-loop decreases-loop
-same_length c = c.before.loop.invariant.1.long
+shape_of-frame : tie.Need-shape_of-frame invariant-loop decreases-loop
+shape_of-frame c = c.before.loop-c.invariant.1.long
 
 returns : tie.Need-returns invariant-loop decreases-loop
-returns c = upto (omega arith) c.before.loop.invariant.1
+returns c = upto (omega arith) c.before.loop-c.invariant.1
 
-pub text-line-spec : {M : Type 1} → statement M
-text-line-spec =
+pub text_line_spec : {M : Type 1} → statement M
+text_line_spec =
     tie.close
     (tie.spec
     invariant-loop
     decreases-loop
-    loop-holds
-    mul-b
-    add-b
-    shared-slice-read-b
+    loop-c-init
+    overflow_mul-b
+    overflow_add-b
+    bounds-strip-n
     wide-requires
-    mul-tint
-    add-tint
-    element-copy-out-tint
+    overflow_mul-wide
+    overflow_add-wide
+    bounds-glyphs-wide
     ink-requires
-    mul-tint-2
-    mul-tint-3
-    add-tint-2
+    overflow_mul-n
+    overflow_mul-c
+    overflow_add-n
     tint-requires
-    add-c
-    loop-less
-    loop-again
-    same_length
+    overflow_add-c
+    loop-c-smaller
+    loop-c-preserved
+    shape_of-frame
     returns)

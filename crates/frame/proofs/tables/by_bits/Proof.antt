@@ -7,47 +7,47 @@ use Rattle.promises.proofs.Fills.{none, more, upto}
 use Rattle.frame.proofs.tables.by_bits.Statement.{statement}
 use Rattle.frame.proofs.tables.by_bits.Tie as tie
 
-abbrev invariant-loop : tie.invariant-loop
+abbrev invariant-loop : tie.invariant-loop-n
 invariant-loop on off table₀ n₀ table n = (n ≤ 2048) × Filled (λ (m : ℕ). one_bit on off (m / 8) (m % 8)) 0 n table₀ table
 
-abbrev decreases-loop : tie.decreases-loop
+abbrev decreases-loop : tie.decreases-loop-n
 decreases-loop on off table₀ n₀ table n = 2048 - n
 
-loop-holds : tie.Need-loop-init invariant-loop decreases-loop
-loop-holds c = (omega arith, none _ _ _)
+loop-n-init : tie.Need-loop-n-init invariant-loop decreases-loop
+loop-n-init c = (omega arith, none _ _ _)
 
-cast-one-bit : tie.Need-overflow-cast-one-bit invariant-loop decreases-loop
-cast-one-bit c = omega arith
+overflow_cast-n : tie.Need-overflow_cast-n invariant-loop decreases-loop
+overflow_cast-n c = omega arith
 
-one-bit-requires : tie.Need-one-bit-requires invariant-loop decreases-loop
-one-bit-requires c κs = omega arith
+one_bit-requires : tie.Need-one_bit-requires invariant-loop decreases-loop
+one_bit-requires c κs = omega arith
 
-element-write-table : tie.Need-element-write-table invariant-loop decreases-loop
-element-write-table c = omega arith
+bounds-table-n : tie.Need-bounds-table-n invariant-loop decreases-loop
+bounds-table-n c = omega arith
 
-add-n : tie.Need-overflow-add-n invariant-loop decreases-loop
-add-n c = omega arith
+overflow_add-n : tie.Need-overflow_add-n invariant-loop decreases-loop
+overflow_add-n c = omega arith
 
-loop-less : tie.Need-loop-smaller invariant-loop decreases-loop
-loop-less c = omega arith
+loop-n-smaller : tie.Need-loop-n-smaller invariant-loop decreases-loop
+loop-n-smaller c = omega arith
 
-loop-again : tie.Need-loop-preserved invariant-loop decreases-loop
-loop-again c = (omega arith, more _ c.before.before.loop.invariant.1 (omega arith) (omega (arith, c.before.before.loop.invariant.1.long)) c.one_bit.ensures)
+loop-n-preserved : tie.Need-loop-n-preserved invariant-loop decreases-loop
+loop-n-preserved c = (omega arith, more _ c.before.before.loop-n.invariant.1 (omega arith) (omega (arith, c.before.before.loop-n.invariant.1.long)) c.one_bit.ensures)
 
 returns : tie.Need-returns invariant-loop decreases-loop
-returns c = upto (omega arith) c.before.loop.invariant.1
+returns c = upto (omega arith) c.before.loop-n.invariant.1
 
-pub by-bits-spec : {M : Type 1} → statement M
-by-bits-spec =
+pub by_bits_spec : {M : Type 1} → statement M
+by_bits_spec =
     tie.close
     (tie.spec
     invariant-loop
     decreases-loop
-    loop-holds
-    cast-one-bit
-    one-bit-requires
-    element-write-table
-    add-n
-    loop-less
-    loop-again
+    loop-n-init
+    overflow_cast-n
+    one_bit-requires
+    bounds-table-n
+    overflow_add-n
+    loop-n-smaller
+    loop-n-preserved
     returns)

@@ -5,22 +5,22 @@ use Rattle.pixel.specs.Dots.{bit, one_bit}
 use Rattle.frame.proofs.tables.one_bit.Statement.{statement}
 use Rattle.frame.proofs.tables.one_bit.Tie as tie
 
-sub-if1 : tie.Need-overflow-sub-if1
-sub-if1 c = search rules
+overflow_sub-j : tie.Need-overflow_sub-j
+overflow_sub-j c = search rules
 
-cast-if1 : tie.Need-overflow-cast-if1
-cast-if1 c = search rules
+overflow_cast-j : tie.Need-overflow_cast-j
+overflow_cast-j c = search rules
 
-shr-if1 : tie.Need-overflow-shr-if1
-shr-if1 c = search rules
+overflow_shr-b : tie.Need-overflow_shr-b
+overflow_shr-b c = search rules
 
-returns : tie.Need-returns
+returns-then-b-j-eq1 : tie.Need-returns-then-b-j-eq1
 unfolding bit one_bit
-returns c = simp (eq-eqb _ _ c.if1.true)
+returns-then-b-j-eq1 c = simp (eq-eqb _ _ c.if-b-j-eq1.true)
 
-returns-2 : tie.Need-returns-2
+returns-else-b-j-eq1 : tie.Need-returns-else-b-j-eq1
 unfolding bit one_bit
-returns-2 c = simp (ne_eqb _ _ c.if1.false)
+returns-else-b-j-eq1 c = simp (ne_eqb _ _ c.if-b-j-eq1.false)
 
-pub one-bit-spec : {M : Type 1} → statement M
-one-bit-spec = tie.close (tie.spec sub-if1 cast-if1 shr-if1 returns returns-2)
+pub one_bit_spec : {M : Type 1} → statement M
+one_bit_spec = tie.close (tie.spec overflow_sub-j overflow_cast-j overflow_shr-b returns-then-b-j-eq1 returns-else-b-j-eq1)

@@ -6,55 +6,55 @@ use Rattle.scan.proofs.Stepped.{closed_short, closed_end, closed_got, closed_off
 use Rattle.scan.proofs.lines.closed_run.Statement.{statement}
 use Rattle.scan.proofs.lines.closed_run.Tie as tie
 
-run-requires : tie.Need-run-requires
-run-requires c κs = search rules
+run-n-requires : tie.Need-run-n-requires
+run-n-requires c κs = search rules
 
-returns : tie.Need-returns
-returns c =
+returns-then-n-lo : tie.Need-returns-then-n-lo
+returns-then-n-lo c =
     let a = c.before.before.before.args in
-    let r = c.before.run in
-    (closed_short (class_of a.class) a.lo a.hi a.end a.at a.s.now r.result r.ensures.0 c.if1.true, omega (arith, r.ensures.1))
+    let r = c.before.run-n in
+    (closed_short (class_of a.class) a.lo a.hi a.end a.at a.s.now r.result r.ensures.0 c.if-n-lo.true, omega (arith, r.ensures.1))
 
-sub-if2 : tie.Need-overflow-sub-if2
-sub-if2 c = search rules
+overflow_sub-s : tie.Need-overflow_sub-s
+overflow_sub-s c = search rules
 
-returns-2 : tie.Need-returns-2
-returns-2 c =
+returns-then-s-at : tie.Need-returns-then-s-at
+returns-then-s-at c =
     let a = c.before.before.before.before.args in
-    let r = c.before.before.run in
-    (closed_end (class_of a.class) a.lo a.hi a.end a.at a.s.now r.result r.ensures.0 (omega arith) c.if2.true, omega (arith, r.ensures.1))
+    let r = c.before.before.run-n in
+    (closed_end (class_of a.class) a.lo a.hi a.end a.at a.s.now r.result r.ensures.0 (omega arith) c.if-s-at.true, omega (arith, r.ensures.1))
 
-add-if3 : tie.Need-overflow-add-if3
-add-if3 c = search rules
+overflow_add-at : tie.Need-overflow_add-at
+overflow_add-at c = search rules
 
-shared-slice-read-if3 : tie.Need-shared-slice-read-if3
-shared-slice-read-if3 c = search rules
+bounds-s-at : tie.Need-bounds-s-at
+bounds-s-at c = search rules
 
-add-t13 : tie.Need-overflow-add-t13
-add-t13 c = search rules
+overflow_add-result : tie.Need-overflow_add-result
+overflow_add-result c = search rules
 
-returns-3 : tie.Need-returns-3
-returns-3 c =
+returns-then-s-at-2 : tie.Need-returns-then-s-at-2
+returns-then-s-at-2 c =
     let a = c.before.before.before.before.before.before.args in
-    let r = c.before.before.before.before.run in
-    (closed_got (class_of a.class) a.lo a.hi a.end a.at a.s.now r.result r.ensures.0 (omega arith) (omega arith) c.if3.true, omega (arith, r.ensures.1))
+    let r = c.before.before.before.before.run-n in
+    (closed_got (class_of a.class) a.lo a.hi a.end a.at a.s.now r.result r.ensures.0 (omega arith) (omega arith) c.if-s-at-2.true, omega (arith, r.ensures.1))
 
-returns-4 : tie.Need-returns-4
+returns-4 : tie.Need-returns
 returns-4 c =
     let a = c.before.before.before.before.before.before.args in
-    let r = c.before.before.before.before.run in
-    (closed_off (class_of a.class) a.lo a.hi a.end a.at a.s.now r.result r.ensures.0 (omega arith) (omega arith) c.if3.false, omega (arith, r.ensures.1))
+    let r = c.before.before.before.before.run-n in
+    (closed_off (class_of a.class) a.lo a.hi a.end a.at a.s.now r.result r.ensures.0 (omega arith) (omega arith) c.if-s-at-2.false, omega (arith, r.ensures.1))
 
-pub closed-run-spec : {M : Type 1} → statement M
-closed-run-spec =
+pub closed_run_spec : {M : Type 1} → statement M
+closed_run_spec =
     tie.close
     (tie.spec
-    run-requires
-    returns
-    sub-if2
-    returns-2
-    add-if3
-    shared-slice-read-if3
-    add-t13
-    returns-3
+    run-n-requires
+    returns-then-n-lo
+    overflow_sub-s
+    returns-then-s-at
+    overflow_add-at
+    bounds-s-at
+    overflow_add-result
+    returns-then-s-at-2
     returns-4)

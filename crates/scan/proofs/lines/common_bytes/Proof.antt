@@ -8,71 +8,71 @@ use Rattle.text.proofs.Scans.{common_over, common_end, common_off, common_more, 
 use Rattle.scan.proofs.lines.common_bytes.Statement.{statement}
 use Rattle.scan.proofs.lines.common_bytes.Tie as tie
 
-abbrev invariant-loop : tie.invariant-loop
+abbrev invariant-loop : tie.invariant-loop-n
 invariant-loop s at key n₀ n = (n ≤ length key) × (at + n ≤ length s) × (common key (drop at s) ≡ n + common (drop n key) (drop (at + n) s))
 
-abbrev decreases-loop : tie.decreases-loop
+abbrev decreases-loop : tie.decreases-loop-n
 decreases-loop s at key n₀ n = length key - n
 
-loop-holds : tie.Need-loop-init invariant-loop decreases-loop
-loop-holds c = (omega arith, omega arith, common_start c.args.key.now c.args.s.now c.args.at)
+loop-n-init : tie.Need-loop-n-init invariant-loop decreases-loop
+loop-n-init c = (omega arith, omega arith, common_start c.args.key.now c.args.s.now c.args.at)
 
-sub-if1 : tie.Need-overflow-sub-if1 invariant-loop decreases-loop
-sub-if1 c = omega arith
+overflow_sub-s : tie.Need-overflow_sub-s invariant-loop decreases-loop
+overflow_sub-s c = omega arith
 
-returns : tie.Need-returns invariant-loop decreases-loop
-returns c =
-    let l = c.before.before.loop in
+returns-then-s-at : tie.Need-returns-then-s-at invariant-loop decreases-loop
+returns-then-s-at c =
+    let l = c.before.before.loop-n in
     let a = c.before.before.before.args in
     (omega (arith, l.invariant.2, common_end a.key.now a.s.now l.n a.at (omega arith) (omega arith)), (omega arith, omega arith))
 
-add-if2 : tie.Need-overflow-add-if2 invariant-loop decreases-loop
-add-if2 c = omega arith
+overflow_add-at : tie.Need-overflow_add-at invariant-loop decreases-loop
+overflow_add-at c = omega arith
 
-shared-slice-read-if2 : tie.Need-shared-slice-read-if2 invariant-loop decreases-loop
-shared-slice-read-if2 c = omega arith
+bounds-s-at : tie.Need-bounds-s-at invariant-loop decreases-loop
+bounds-s-at c = omega arith
 
-shared-slice-read-if2-2 : tie.Need-shared-slice-read-if2-2 invariant-loop decreases-loop
-shared-slice-read-if2-2 c = omega arith
+bounds-key-n : tie.Need-bounds-key-n invariant-loop decreases-loop
+bounds-key-n c = omega arith
 
-returns-2 : tie.Need-returns-2 invariant-loop decreases-loop
-returns-2 c =
-    let l = c.before.before.before.before.before.loop in
+returns-then-s-at-2 : tie.Need-returns-then-s-at-2 invariant-loop decreases-loop
+returns-then-s-at-2 c =
+    let l = c.before.before.before.before.before.loop-n in
     let a = c.before.before.before.before.before.before.args in
-    (omega (arith, l.invariant.2, common_off a.key.now a.s.now l.n a.at (omega arith) (omega arith) c.if2.true), (omega arith, omega arith))
+    (omega (arith, l.invariant.2, common_off a.key.now a.s.now l.n a.at (omega arith) (omega arith) c.if-s-at-2.true), (omega arith, omega arith))
 
-add-n : tie.Need-overflow-add-n invariant-loop decreases-loop
-add-n c = omega arith
+overflow_add-n : tie.Need-overflow_add-n invariant-loop decreases-loop
+overflow_add-n c = omega arith
 
-loop-less : tie.Need-loop-smaller invariant-loop decreases-loop
-loop-less c = omega arith
+loop-n-smaller : tie.Need-loop-n-smaller invariant-loop decreases-loop
+loop-n-smaller c = omega arith
 
-loop-again : tie.Need-loop-preserved invariant-loop decreases-loop
-loop-again c =
-    let l = c.before.before.before.before.before.loop in
+loop-n-preserved : tie.Need-loop-n-preserved invariant-loop decreases-loop
+loop-n-preserved c =
+    let l = c.before.before.before.before.before.loop-n in
     let a = c.before.before.before.before.before.before.args in
-    (omega arith, omega arith, omega (arith, l.invariant.2, common_more a.key.now a.s.now l.n a.at (omega arith) (omega arith) c.if2.false))
+    (omega arith, omega arith, omega (arith, l.invariant.2, common_more a.key.now a.s.now l.n a.at (omega arith) (omega arith) c.if-s-at-2.false))
 
-returns-3 : tie.Need-returns-3 invariant-loop decreases-loop
+returns-3 : tie.Need-returns invariant-loop decreases-loop
 returns-3 c =
-    let l = c.before.loop in
+    let l = c.before.loop-n in
     let a = c.before.before.args in
     (omega (arith, l.invariant.2, common_over a.key.now a.s.now l.n a.at (omega arith)), (omega arith, omega arith))
 
-pub common-bytes-spec : {M : Type 1} → statement M
-common-bytes-spec =
+pub common_bytes_spec : {M : Type 1} → statement M
+common_bytes_spec =
     tie.close
     (tie.spec
     invariant-loop
     decreases-loop
-    loop-holds
-    sub-if1
-    returns
-    add-if2
-    shared-slice-read-if2
-    shared-slice-read-if2-2
-    returns-2
-    add-n
-    loop-less
-    loop-again
+    loop-n-init
+    overflow_sub-s
+    returns-then-s-at
+    overflow_add-at
+    bounds-s-at
+    bounds-key-n
+    returns-then-s-at-2
+    overflow_add-n
+    loop-n-smaller
+    loop-n-preserved
     returns-3)

@@ -13,71 +13,71 @@ use Rattle.scan.proofs.lines.in_class.Tie as tie
 of-class : {k k' : Class} (b : ℕ) → k' ≡ k → class_of k b ≡ class_of k' b
 of-class b e = ap (λ (x : Class). class_of x b) (sym e)
 
-enum_told : tie.Need-enum-told
+enum_told : tie.Need-enum_told-1
 enum_told c = search rules
 
 within-requires : tie.Need-within-requires
 within-requires c κs = search rules
 
-within-requires-2 : tie.Need-within-requires-2
-within-requires-2 c κs = search rules
+within-requires-in-Deed : tie.Need-within-requires-in-Deed
+within-requires-in-Deed c κs = search rules
 
-enum-told-2 : tie.Need-enum-told-2
-enum-told-2 c = search rules
+enum_told-in-Hex : tie.Need-enum_told-in-Hex
+enum_told-in-Hex c = search rules
 
-within-requires-3 : tie.Need-within-requires-3
-within-requires-3 c κs = search rules
+within-requires-in-Hex : tie.Need-within-requires-in-Hex
+within-requires-in-Hex c κs = search rules
 
-within-requires-4 : tie.Need-within-requires-4
-within-requires-4 c κs = search rules
+within-requires-in-Hex-2 : tie.Need-within-requires-in-Hex-2
+within-requires-in-Hex-2 c κs = search rules
 
-enum-told-3 : tie.Need-enum-told-3
-enum-told-3 c = search rules
+enum_told-in-Key : tie.Need-enum_told-in-Key
+enum_told-in-Key c = search rules
 
-within-requires-5 : tie.Need-within-requires-5
-within-requires-5 c κs = search rules
+within-requires-in-Key : tie.Need-within-requires-in-Key
+within-requires-in-Key c κs = search rules
 
-enum-told-4 : tie.Need-enum-told-4
-enum-told-4 c = search rules
+enum_told-in-Value : tie.Need-enum_told-in-Value
+enum_told-in-Value c = search rules
 
-enum-told-5 : tie.Need-enum-told-5
-enum-told-5 c = search rules
+enum_told-in-RuleDigit : tie.Need-enum_told-in-RuleDigit
+enum_told-in-RuleDigit c = search rules
 
-within-requires-6 : tie.Need-within-requires-6
-within-requires-6 c κs = search rules
+within-requires-in-RuleDigit : tie.Need-within-requires-in-RuleDigit
+within-requires-in-RuleDigit c κs = search rules
 
-returns : tie.Need-returns
-returns c = rw (c.before.within.ensures, c.within2.ensures) (of-class c.before.before.before.before.args.b c.before.before.enum_told.given.1)
+returns-in-Deed : tie.Need-returns-in-Deed
+returns-in-Deed c = rw (c.before.within.ensures, c.within-in-Deed.ensures) (of-class c.before.before.before.before.args.b c.before.before.enum_told-1.given.1)
 
-returns-2 : tie.Need-returns-2
-returns-2 c = rw (c.before.within3.ensures, c.within4.ensures) (of-class c.before.before.before.before.args.b c.before.before.enum-told2.given.1)
+returns-in-Hex : tie.Need-returns-in-Hex
+returns-in-Hex c = rw (c.before.within-in-Hex.ensures, c.within-in-Hex-2.ensures) (of-class c.before.before.before.before.args.b c.before.before.enum_told-in-Hex-1.given.1)
 
-returns-3 : tie.Need-returns-3
-returns-3 c = rw c.within5.ensures (of-class c.before.before.before.args.b c.before.enum-told3.given.1)
+returns-in-Key : tie.Need-returns-in-Key
+returns-in-Key c = rw c.within-in-Key.ensures (of-class c.before.before.before.args.b c.before.enum_told-in-Key-1.given.1)
 
-returns-4 : tie.Need-returns-4
-returns-4 c = sym (rw (le-leb c.before.before.args.b 255 (omega (arith, c.before.before.ranges.b)))) ∙ of-class c.before.before.args.b c.enum-told4.given.1
+returns-in-Value : tie.Need-returns-in-Value
+returns-in-Value c = sym (rw (le-leb c.before.before.args.b 255 (omega (arith, c.before.before.ranges.b)))) ∙ of-class c.before.before.args.b c.enum_told-in-Value-1.given.1
 
-returns-5 : tie.Need-returns-5
-returns-5 c = rw c.within6.ensures (of-class c.before.before.before.args.b c.before.enum-told5.given.1)
+returns-in-RuleDigit : tie.Need-returns-in-RuleDigit
+returns-in-RuleDigit c = rw c.within-in-RuleDigit.ensures (of-class c.before.before.before.args.b c.before.enum_told-in-RuleDigit-1.given.1)
 
-pub in-class-spec : {M : Type 1} → statement M
-in-class-spec =
+pub in_class_spec : {M : Type 1} → statement M
+in_class_spec =
     tie.close
     (tie.spec
     enum_told
     within-requires
-    within-requires-2
-    enum-told-2
-    within-requires-3
-    within-requires-4
-    enum-told-3
-    within-requires-5
-    enum-told-4
-    enum-told-5
-    within-requires-6
-    returns
-    returns-2
-    returns-3
-    returns-4
-    returns-5)
+    within-requires-in-Deed
+    enum_told-in-Hex
+    within-requires-in-Hex
+    within-requires-in-Hex-2
+    enum_told-in-Key
+    within-requires-in-Key
+    enum_told-in-Value
+    enum_told-in-RuleDigit
+    within-requires-in-RuleDigit
+    returns-in-Deed
+    returns-in-Hex
+    returns-in-Key
+    returns-in-Value
+    returns-in-RuleDigit)

@@ -8,32 +8,32 @@ use Rattle.scan.proofs.Stepped.{led_short, led_step}
 use Rattle.scan.proofs.lines.keyed_line.Statement.{statement}
 use Rattle.scan.proofs.lines.keyed_line.Tie as tie
 
-common-bytes-requires : tie.Need-common-bytes-requires
-common-bytes-requires c κs = search rules
+common_bytes-n-requires : tie.Need-common_bytes-n-requires
+common_bytes-n-requires c κs = search rules
 
-returns : tie.Need-returns
-returns c =
+returns-then-n-key : tie.Need-returns-then-n-key
+returns-then-n-key c =
     let a = c.before.before.before.before.args in
-    let r = c.before.common-bytes in
-    (sym (ap step_of (led_short a.key.now a.s.now a.at r.result r.ensures.0 (read_closed (class_of a.class) a.lo a.hi 10) c.if1.true)), omega (arith, r.ensures.1.1))
+    let r = c.before.common_bytes-n in
+    (sym (ap step_of (led_short a.key.now a.s.now a.at r.result r.ensures.0 (read_closed (class_of a.class) a.lo a.hi 10) c.if-n-key.true)), omega (arith, r.ensures.1.1))
 
-add-closed-run : tie.Need-overflow-add-closed-run
-add-closed-run c = search rules
+overflow_add-at : tie.Need-overflow_add-at
+overflow_add-at c = search rules
 
-closed-run-requires : tie.Need-closed-run-requires
-closed-run-requires c κs = search rules
+closed_run-field-requires : tie.Need-closed_run-field-requires
+closed_run-field-requires c κs = search rules
 
-add-t9 : tie.Need-overflow-add-t9
-add-t9 c = omega (arith, c.before.before.before.common-bytes.ensures.1.1, c.before.closed_run.ensures.1)
+overflow_add-result : tie.Need-overflow_add-result
+overflow_add-result c = omega (arith, c.before.before.before.common_bytes-n.ensures.1.1, c.before.closed_run-field.ensures.1)
 
-returns-2 : tie.Need-returns-2
+returns-2 : tie.Need-returns
 returns-2 c =
     let a = c.before.before.before.before.before.before.args in
-    let r = c.before.before.before.common-bytes in
-    let field = c.before.closed_run in
+    let r = c.before.before.before.common_bytes-n in
+    let field = c.before.closed_run-field in
     (led_step a.key.now a.s.now a.at r.result r.ensures.0 (read_closed (class_of a.class) a.lo a.hi 10) (omega arith) r.ensures.1.0 field.result field.ensures.0, omega (arith, field.ensures.1))
 
-pub keyed-line-spec : {M : Type 1} → statement M
-keyed-line-spec =
+pub keyed_line_spec : {M : Type 1} → statement M
+keyed_line_spec =
     tie.close
-    (tie.spec common-bytes-requires returns add-closed-run closed-run-requires add-t9 returns-2)
+    (tie.spec common_bytes-n-requires returns-then-n-key overflow_add-at closed_run-field-requires overflow_add-result returns-2)

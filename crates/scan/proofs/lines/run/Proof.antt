@@ -12,58 +12,58 @@ use Rattle.scan.specs.Steps.{class_of}
 use Rattle.scan.proofs.lines.run.Statement.{statement}
 use Rattle.scan.proofs.lines.run.Tie as tie
 
-abbrev invariant-loop : tie.invariant-loop
+abbrev invariant-loop : tie.invariant-loop-n
 invariant-loop s at class most n₀ n = (at + n ≤ length s) × (span (class_of class) most (drop at s) ≡ n + span (class_of class) (most - n) (drop (at + n) s))
 
-abbrev decreases-loop : tie.decreases-loop
+abbrev decreases-loop : tie.decreases-loop-n
 decreases-loop s at class most n₀ n = most - n
 
-loop-holds : tie.Need-loop-init invariant-loop decreases-loop
-loop-holds c =
+loop-n-init : tie.Need-loop-n-init invariant-loop decreases-loop
+loop-n-init c =
     let a = c.before.args in
     (omega arith, span_start (class_of a.class) a.most a.at a.s.now)
 
-sub-if1 : tie.Need-overflow-sub-if1 invariant-loop decreases-loop
-sub-if1 c = omega arith
+overflow_sub-s : tie.Need-overflow_sub-s invariant-loop decreases-loop
+overflow_sub-s c = omega arith
 
-returns : tie.Need-returns invariant-loop decreases-loop
-returns c =
-    let l = c.before.before.loop in
+returns-then-s-at : tie.Need-returns-then-s-at invariant-loop decreases-loop
+returns-then-s-at c =
+    let l = c.before.before.loop-n in
     let a = c.before.before.before.before.args in
     (omega (arith, l.invariant.1, span_end (class_of a.class) a.most l.n a.at a.s.now (omega arith)), omega arith)
 
-add-in-class : tie.Need-overflow-add-in-class invariant-loop decreases-loop
-add-in-class c = omega arith
+overflow_add-at : tie.Need-overflow_add-at invariant-loop decreases-loop
+overflow_add-at c = omega arith
 
-shared-slice-read-in-class : tie.Need-shared-slice-read-in-class invariant-loop decreases-loop
-shared-slice-read-in-class c = omega arith
+bounds-s-at : tie.Need-bounds-s-at invariant-loop decreases-loop
+bounds-s-at c = omega arith
 
-in-class-requires : tie.Need-in-class-requires invariant-loop decreases-loop
-in-class-requires c κs = search rules
+in_class-requires : tie.Need-in_class-requires invariant-loop decreases-loop
+in_class-requires c κs = search rules
 
-returns-2 : tie.Need-returns-2 invariant-loop decreases-loop
-returns-2 c =
-    let l = c.before.before.before.before.before.loop in
+returns-then-not-in_class : tie.Need-returns-then-not-in_class invariant-loop decreases-loop
+returns-then-not-in_class c =
+    let l = c.before.before.before.before.before.loop-n in
     let a = c.before.before.before.before.before.before.before.args in
-    let e : class_of a.class (get_or a.s.now (a.at + l.n) 0) ≡ false = sym c.before.in-class.ensures ∙ not-true _ c.if2.true in
+    let e : class_of a.class (get_or a.s.now (a.at + l.n) 0) ≡ false = sym c.before.in_class.ensures ∙ not-true _ c.if-not-in_class.true in
     (omega (arith, l.invariant.1, span_off (class_of a.class) a.most l.n a.at a.s.now (omega arith) (omega arith) e), omega arith)
 
-add-n : tie.Need-overflow-add-n invariant-loop decreases-loop
-add-n c = omega arith
+overflow_add-n : tie.Need-overflow_add-n invariant-loop decreases-loop
+overflow_add-n c = omega arith
 
-loop-less : tie.Need-loop-smaller invariant-loop decreases-loop
-loop-less c = omega arith
+loop-n-smaller : tie.Need-loop-n-smaller invariant-loop decreases-loop
+loop-n-smaller c = omega arith
 
-loop-again : tie.Need-loop-preserved invariant-loop decreases-loop
-loop-again c =
-    let l = c.before.before.before.before.before.loop in
+loop-n-preserved : tie.Need-loop-n-preserved invariant-loop decreases-loop
+loop-n-preserved c =
+    let l = c.before.before.before.before.before.loop-n in
     let a = c.before.before.before.before.before.before.before.args in
-    let e : class_of a.class (get_or a.s.now (a.at + l.n) 0) ≡ true = sym c.before.in-class.ensures ∙ not-false _ c.if2.false in
+    let e : class_of a.class (get_or a.s.now (a.at + l.n) 0) ≡ true = sym c.before.in_class.ensures ∙ not-false _ c.if-not-in_class.false in
     (omega arith, omega (arith, l.invariant.1, span_more (class_of a.class) a.most l.n a.at a.s.now (omega arith) (omega arith) e))
 
-returns-3 : tie.Need-returns-3 invariant-loop decreases-loop
+returns-3 : tie.Need-returns invariant-loop decreases-loop
 returns-3 c =
-    let l = c.before.loop in
+    let l = c.before.loop-n in
     let a = c.before.before.before.args in
     (omega (arith, l.invariant.1, span_over (class_of a.class) a.most l.n a.at a.s.now (omega arith) (drop (a.at + l.n) a.s.now)), omega arith)
 
@@ -73,14 +73,14 @@ run_spec =
     (tie.spec
     invariant-loop
     decreases-loop
-    loop-holds
-    sub-if1
-    returns
-    add-in-class
-    shared-slice-read-in-class
-    in-class-requires
-    returns-2
-    add-n
-    loop-less
-    loop-again
+    loop-n-init
+    overflow_sub-s
+    returns-then-s-at
+    overflow_add-at
+    bounds-s-at
+    in_class-requires
+    returns-then-not-in_class
+    overflow_add-n
+    loop-n-smaller
+    loop-n-preserved
     returns-3)

@@ -15,63 +15,63 @@ use Rattle.scan.proofs.notes.annotation_line.Statement.{statement}
 use Rattle.scan.proofs.notes.annotation_line.Tie as tie
 
 -- the bytes from the line on, at the place where its key is whole
-abbrev line : tie.Else1 → List ℕ
+abbrev line : tie.Else-not-key → List ℕ
 line c = let a = c.before.before.before.before.args in drop a.at a.s.now
 
-closed-run-requires : tie.Need-closed-run-requires
-closed-run-requires c κs = search rules
+closed_run-key-requires : tie.Need-closed_run-key-requires
+closed_run-key-requires c κs = search rules
 
-returns : tie.Need-returns
-returns c =
+returns-then-not-key : tie.Need-returns-then-not-key
+returns-then-not-key c =
     let a = c.before.before.before.before.args in
     let l = drop a.at a.s.now in
-    let k = c.before.before.closed_run in
-    (key_stuck l k.result k.ensures.0 (not-true _ c.if1.true), k.ensures.1)
+    let k = c.before.before.closed_run-key in
+    (key_stuck l k.result k.ensures.0 (not-true _ c.if-not-key.true), k.ensures.1)
 
-is-free-requires : tie.Need-is-free-requires
-is-free-requires c κs = search rules
+is_free-requires : tie.Need-is_free-requires
+is_free-requires c κs = search rules
 
-sub-t8 : tie.Need-overflow-sub-t8
-sub-t8 c =
+overflow_sub-result : tie.Need-overflow_sub-result
+overflow_sub-result c =
     let p = c.before.before.before in
-    let k = p.before.before.closed_run in
-    (key_read (line p) k.result k.ensures.0 (not-false _ p.if1.false)).some
+    let k = p.before.before.closed_run-key in
+    (key_read (line p) k.result k.ensures.0 (not-false _ p.if-not-key.false)).some
 
-returns-2 : tie.Need-returns-2
-returns-2 c =
+returns-then-not-is_free : tie.Need-returns-then-not-is_free
+returns-then-not-is_free c =
     let p = c.before.before.before in
-    let k = p.before.before.closed_run in
-    (key_taken (line p) k.result k.ensures.0 (not-false _ p.if1.false) (sym c.before.before.is_free.ensures ∙ not-true _ c.before.if2.true), omega (arith, k.ensures.1))
+    let k = p.before.before.closed_run-key in
+    (key_taken (line p) k.result k.ensures.0 (not-false _ p.if-not-key.false) (sym c.before.before.is_free.ensures ∙ not-true _ c.before.if-not-is_free.true), omega (arith, k.ensures.1))
 
-add-closed-run : tie.Need-overflow-add-closed-run
-add-closed-run c = search rules
+overflow_add-at : tie.Need-overflow_add-at
+overflow_add-at c = search rules
 
-closed-run-requires-2 : tie.Need-closed-run-requires-2
-closed-run-requires-2 c κs = search rules
+closed_run-value-requires : tie.Need-closed_run-value-requires
+closed_run-value-requires c κs = search rules
 
-add-t9 : tie.Need-overflow-add-t9
-add-t9 c = search rules
+overflow_add-result : tie.Need-overflow_add-result
+overflow_add-result c = search rules
 
-returns-3 : tie.Need-returns-3
+returns-3 : tie.Need-returns
 returns-3 c =
     let q = c.before.before.before.before in
     let p = q.before.before in
     let a = p.before.before.before.before.args in
-    let k = p.before.before.closed_run in
-    let v = c.before.before.closed-run2 in
+    let k = p.before.before.closed_run-key in
+    let v = c.before.before.closed_run-value in
     let e = v.ensures.0 ∙ ap (λ (x : List ℕ). step_of (read_closed value_byte 0 120 10 x)) (sym (drop-drop k.result.size a.at a.s.now)) in
-    (key_free_lem (line p) k.result k.ensures.0 (not-false _ p.if1.false) (sym q.before.is_free.ensures ∙ not-false _ q.if2.false) v.result e, omega (arith, v.ensures.1))
+    (key_free_lem (line p) k.result k.ensures.0 (not-false _ p.if-not-key.false) (sym q.before.is_free.ensures ∙ not-false _ q.if-not-is_free.false) v.result e, omega (arith, v.ensures.1))
 
-pub annotation-line-spec : {M : Type 1} → statement M
-annotation-line-spec =
+pub annotation_line_spec : {M : Type 1} → statement M
+annotation_line_spec =
     tie.close
     (tie.spec
-    closed-run-requires
-    returns
-    is-free-requires
-    sub-t8
-    returns-2
-    add-closed-run
-    closed-run-requires-2
-    add-t9
+    closed_run-key-requires
+    returns-then-not-key
+    is_free-requires
+    overflow_sub-result
+    returns-then-not-is_free
+    overflow_add-at
+    closed_run-value-requires
+    overflow_add-result
     returns-3)

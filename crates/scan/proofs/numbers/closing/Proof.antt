@@ -5,23 +5,23 @@ use Rattle.scan.proofs.Counting.{closing_end, closing_got, closing_off}
 use Rattle.scan.proofs.numbers.closing.Statement.{statement}
 use Rattle.scan.proofs.numbers.closing.Tie as tie
 
-returns : tie.Need-returns
-returns c =
+returns-then-s-at : tie.Need-returns-then-s-at
+returns-then-s-at c =
     let a = c.before.args in
-    (closing_end a.s.now a.at a.v c.if1.true, omega arith)
+    (closing_end a.s.now a.at a.v c.if-s-at.true, omega arith)
 
-shared-slice-read-if2 : tie.Need-shared-slice-read-if2
-shared-slice-read-if2 c = search rules
+bounds-s-at : tie.Need-bounds-s-at
+bounds-s-at c = search rules
 
-returns-2 : tie.Need-returns-2
-returns-2 c =
+returns-then-s-at-eq10 : tie.Need-returns-then-s-at-eq10
+returns-then-s-at-eq10 c =
     let a = c.before.before.before.args in
-    (closing_got a.s.now a.at a.v (omega arith) c.if2.true, omega arith)
+    (closing_got a.s.now a.at a.v (omega arith) c.if-s-at-eq10.true, omega arith)
 
-returns-3 : tie.Need-returns-3
+returns-3 : tie.Need-returns
 returns-3 c =
     let a = c.before.before.before.args in
-    (closing_off a.s.now a.at a.v (omega arith) c.if2.false, omega arith)
+    (closing_off a.s.now a.at a.v (omega arith) c.if-s-at-eq10.false, omega arith)
 
-pub closing-spec : {M : Type 1} → statement M
-closing-spec = tie.close (tie.spec returns shared-slice-read-if2 returns-2 returns-3)
+pub closing_spec : {M : Type 1} → statement M
+closing_spec = tie.close (tie.spec returns-then-s-at bounds-s-at returns-then-s-at-eq10 returns-3)

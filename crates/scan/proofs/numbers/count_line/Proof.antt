@@ -8,42 +8,38 @@ use Rattle.scan.proofs.Counting.{led_count_short, led_count}
 use Rattle.scan.proofs.numbers.count_line.Statement.{statement}
 use Rattle.scan.proofs.numbers.count_line.Tie as tie
 
-slice-aggregate-common-bytes : tie.Need-slice-aggregate-common-bytes
-slice-aggregate-common-bytes c = search rules
+common_bytes-n-requires : tie.Need-common_bytes-n-requires
+common_bytes-n-requires c κs = search rules
 
-common-bytes-requires : tie.Need-common-bytes-requires
-common-bytes-requires c κs = search rules
-
-returns : tie.Need-returns
-returns c =
+returns-then-n-lt7 : tie.Need-returns-then-n-lt7
+returns-then-n-lt7 c =
     let a = c.before.before.before.before.args in
-    let r = c.before.common-bytes in
-    (led_count_short (writes_word ++ eq) a.s.now a.at r.result r.ensures.0 read_number c.if1.true, omega (arith, r.ensures.1.1))
+    let r = c.before.common_bytes-n in
+    (led_count_short (writes_word ++ eq) a.s.now a.at r.result r.ensures.0 read_number c.if-n-lt7.true, omega (arith, r.ensures.1.1))
 
-add-write-number : tie.Need-overflow-add-write-number
-add-write-number c = search rules
+overflow_add-at : tie.Need-overflow_add-at
+overflow_add-at c = search rules
 
-write-number-requires : tie.Need-write-number-requires
-write-number-requires c κs = search rules
+write_number-number-requires : tie.Need-write_number-number-requires
+write_number-number-requires c κs = search rules
 
-add-t9 : tie.Need-overflow-add-t9
-add-t9 c = search rules
+overflow_add-result : tie.Need-overflow_add-result
+overflow_add-result c = search rules
 
-returns-2 : tie.Need-returns-2
+returns-2 : tie.Need-returns
 returns-2 c =
     let a = c.before.before.before.before.before.before.args in
-    let r = c.before.before.before.common-bytes in
-    let number = c.before.write-number in
+    let r = c.before.before.before.common_bytes-n in
+    let number = c.before.write_number-number in
     (led_count (writes_word ++ eq) a.s.now a.at r.result r.ensures.0 read_number (omega arith) r.ensures.1.0 number.result number.ensures.0, omega (arith, number.ensures.1))
 
-pub count-line-spec : {M : Type 1} → statement M
-count-line-spec =
+pub count_line_spec : {M : Type 1} → statement M
+count_line_spec =
     tie.close
     (tie.spec
-    slice-aggregate-common-bytes
-    common-bytes-requires
-    returns
-    add-write-number
-    write-number-requires
-    add-t9
+    common_bytes-n-requires
+    returns-then-n-lt7
+    overflow_add-at
+    write_number-number-requires
+    overflow_add-result
     returns-2)

@@ -5,24 +5,24 @@ use Rattle.text.proofs.Hexes.{lowest}
 use Rattle.scan.proofs.numbers.digit_of.Statement.{statement}
 use Rattle.scan.proofs.numbers.digit_of.Tie as tie
 
-sub-result : tie.Need-overflow-sub-result
-sub-result c = lowest c.before.args.b c.before.requires
+overflow_sub-result : tie.Need-overflow_sub-result
+overflow_sub-result c = lowest c.before.args.b c.before.requires
 
-cast-result : tie.Need-overflow-cast-result
-cast-result c = search rules
+overflow_cast-result : tie.Need-overflow_cast-result
+overflow_cast-result c = search rules
 
-returns : tie.Need-returns
-returns c = rw (lt-ltb c.before.args.b 58 c.if1.true)
+returns-then-b-lt58 : tie.Need-returns-then-b-lt58
+returns-then-b-lt58 c = rw (lt-ltb c.before.args.b 58 c.if-b-lt58.true)
 
-sub-result-2 : tie.Need-overflow-sub-result-2
-sub-result-2 c = search rules
+overflow_sub-result-2 : tie.Need-overflow_sub-result-2
+overflow_sub-result-2 c = search rules
 
-cast-result-2 : tie.Need-overflow-cast-result-2
-cast-result-2 c = search rules
+overflow_cast-result-2 : tie.Need-overflow_cast-result-2
+overflow_cast-result-2 c = search rules
 
-returns-2 : tie.Need-returns-2
-returns-2 c = rw (le-ltb c.before.args.b 58 c.if1.false)
+returns-2 : tie.Need-returns
+returns-2 c = rw (le-ltb c.before.args.b 58 c.if-b-lt58.false)
 
-pub digit-of-spec : {M : Type 1} → statement M
-digit-of-spec =
-    tie.close (tie.spec sub-result cast-result returns sub-result-2 cast-result-2 returns-2)
+pub digit_of_spec : {M : Type 1} → statement M
+digit_of_spec =
+    tie.close (tie.spec overflow_sub-result overflow_cast-result returns-then-b-lt58 overflow_sub-result-2 overflow_cast-result-2 returns-2)

@@ -8,27 +8,27 @@ use Rattle.scan.proofs.numbers.is_more.Statement.{statement}
 use Rattle.scan.proofs.numbers.is_more.Tie as tie
 
 -- c is a digit
-digits : (c : tie.Then1) → (48 ≤ c.before.before.args.c) × (c.before.before.args.c ≤ 57)
-digits c = between_le 48 57 c.before.before.args.c (sym c.before.within.ensures ∙ c.if1.true)
+digits : (c : tie.Then-within) → (48 ≤ c.before.before.args.c) × (c.before.before.args.c ≤ 57)
+digits c = between_le 48 57 c.before.before.args.c (sym c.before.within.ensures ∙ c.if-within.true)
 
 within-requires : tie.Need-within-requires
 within-requires c κs = search rules
 
-mul-result : tie.Need-overflow-mul-result
-mul-result c = search rules
+overflow_mul-result : tie.Need-overflow_mul-result
+overflow_mul-result c = search rules
 
-sub-result : tie.Need-overflow-sub-result
-sub-result c = (digits c).0
+overflow_sub-result : tie.Need-overflow_sub-result
+overflow_sub-result c = (digits c).0
 
-add-result : tie.Need-overflow-add-result
-add-result c = omega (arith, digits c)
+overflow_add-result : tie.Need-overflow_add-result
+overflow_add-result c = omega (arith, digits c)
 
-returns : tie.Need-returns
-returns c = rw (sym c.before.within.ensures, c.if1.true)
+returns-then-within : tie.Need-returns-then-within
+returns-then-within c = rw (sym c.before.within.ensures, c.if-within.true)
 
-returns-2 : tie.Need-returns-2
-returns-2 c = rw (sym c.before.within.ensures, c.if1.false)
+returns-2 : tie.Need-returns
+returns-2 c = rw (sym c.before.within.ensures, c.if-within.false)
 
-pub is-more-spec : {M : Type 1} → statement M
-is-more-spec =
-    tie.close (tie.spec within-requires mul-result sub-result add-result returns returns-2)
+pub is_more_spec : {M : Type 1} → statement M
+is_more_spec =
+    tie.close (tie.spec within-requires overflow_mul-result overflow_sub-result overflow_add-result returns-then-within returns-2)

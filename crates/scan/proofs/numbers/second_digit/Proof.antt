@@ -10,69 +10,69 @@ use Rattle.scan.proofs.numbers.second_digit.Statement.{statement}
 use Rattle.scan.proofs.numbers.second_digit.Tie as tie
 
 -- the byte after the first digit is a digit
-digits : (c : tie.Then2) → (48 ≤ get_or c.before.before.before.before.before.args.s.now c.before.before.before.before.before.args.at 0) × (get_or c.before.before.before.before.before.args.s.now c.before.before.before.before.before.args.at 0 ≤ 57)
+digits : (c : tie.Then-is_more) → (48 ≤ get_or c.before.before.before.before.before.args.s.now c.before.before.before.before.before.args.at 0) × (get_or c.before.before.before.before.before.args.s.now c.before.before.before.before.before.args.at 0 ≤ 57)
 digits c =
     let a = c.before.before.before.before.before.args in
-    let m = more_le a.d (get_or a.s.now a.at 0) (sym c.before.is-more.ensures ∙ c.if2.true) in
+    let m = more_le a.d (get_or a.s.now a.at 0) (sym c.before.is_more.ensures ∙ c.if-is_more.true) in
     (m.0, m.1)
 
-returns : tie.Need-returns
-returns c =
+returns-then-s-at : tie.Need-returns-then-s-at
+returns-then-s-at c =
     let a = c.before.before.args in
-    (second_end a.s.now a.at a.d c.if1.true, omega arith)
+    (second_end a.s.now a.at a.d c.if-s-at.true, omega arith)
 
-shared-slice-read-c : tie.Need-shared-slice-read-c
-shared-slice-read-c c = search rules
+bounds-s-at : tie.Need-bounds-s-at
+bounds-s-at c = search rules
 
-is-more-requires : tie.Need-is-more-requires
-is-more-requires c κs = search rules
+is_more-requires : tie.Need-is_more-requires
+is_more-requires c κs = search rules
 
-add-closing : tie.Need-overflow-add-closing
-add-closing c = search rules
+overflow_add-at : tie.Need-overflow_add-at
+overflow_add-at c = search rules
 
-mul-closing : tie.Need-overflow-mul-closing
-mul-closing c = search rules
+overflow_mul-d : tie.Need-overflow_mul-d
+overflow_mul-d c = search rules
 
-sub-closing : tie.Need-overflow-sub-closing
-sub-closing c = (digits c).0
+overflow_sub-c : tie.Need-overflow_sub-c
+overflow_sub-c c = (digits c).0
 
-add-closing-2 : tie.Need-overflow-add-closing-2
-add-closing-2 c = omega (arith, digits c)
+overflow_add-d : tie.Need-overflow_add-d
+overflow_add-d c = omega (arith, digits c)
 
-closing-requires : tie.Need-closing-requires
-closing-requires c κs = search rules
+closing-end-requires : tie.Need-closing-end-requires
+closing-end-requires c κs = search rules
 
-add-t11 : tie.Need-overflow-add-t11
-add-t11 c = omega (arith, c.before.closing.ensures.1)
+overflow_add-result : tie.Need-overflow_add-result
+overflow_add-result c = omega (arith, c.before.closing-end.ensures.1)
 
-returns-2 : tie.Need-returns-2
-returns-2 c =
+returns-then-is_more : tie.Need-returns-then-is_more
+returns-then-is_more c =
     let a = c.before.before.before.before.before.before.before.args in
-    let end = c.before.closing in
-    (second_more a.s.now a.at a.d (omega arith) (sym c.before.before.before.is-more.ensures ∙ c.before.before.if2.true) end.result end.ensures.0, omega (arith, end.ensures.1))
+    let end = c.before.closing-end in
+    (second_more a.s.now a.at a.d (omega arith) (sym c.before.before.before.is_more.ensures ∙ c.before.before.if-is_more.true) end.result end.ensures.0, omega (arith, end.ensures.1))
 
-closing-requires-2 : tie.Need-closing-requires-2
+closing-requires-2 : tie.Need-closing-requires
 closing-requires-2 c κs = search rules
 
-returns-3 : tie.Need-returns-3
+returns-3 : tie.Need-returns
 returns-3 c =
     let a = c.before.before.before.before.before.before.args in
-    let end = c.closing2 in
-    (second_less a.s.now a.at a.d (omega arith) (sym c.before.before.is-more.ensures ∙ c.before.if2.false) end.result end.ensures.0, end.ensures.1)
+    let end = c.closing in
+    (second_less a.s.now a.at a.d (omega arith) (sym c.before.before.is_more.ensures ∙ c.before.if-is_more.false) end.result end.ensures.0, end.ensures.1)
 
-pub second-digit-spec : {M : Type 1} → statement M
-second-digit-spec =
+pub second_digit_spec : {M : Type 1} → statement M
+second_digit_spec =
     tie.close
     (tie.spec
-    returns
-    shared-slice-read-c
-    is-more-requires
-    add-closing
-    mul-closing
-    sub-closing
-    add-closing-2
-    closing-requires
-    add-t11
-    returns-2
+    returns-then-s-at
+    bounds-s-at
+    is_more-requires
+    overflow_add-at
+    overflow_mul-d
+    overflow_sub-c
+    overflow_add-d
+    closing-end-requires
+    overflow_add-result
+    returns-then-is_more
     closing-requires-2
     returns-3)

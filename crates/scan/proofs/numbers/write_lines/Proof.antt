@@ -15,79 +15,76 @@ use Rattle.scan.proofs.Written.{Filled, filled_none, filled_more, filled_all, fi
 use Rattle.scan.proofs.numbers.write_lines.Statement.{statement}
 use Rattle.scan.proofs.numbers.write_lines.Tie as tie
 
-abbrev invariant-loop : tie.invariant-loop
+abbrev invariant-loop : tie.invariant-loop-i
 invariant-loop s from count out₀ at₀ i₀ t8 out at i =
     (from ≤ at) × (at ≤ length s) × (i ≤ count) × Filled out i (at - from) (read_times read_at count (drop from s)) (read_times read_at (count - i) (drop at s))
 
-abbrev decreases-loop : tie.decreases-loop
+abbrev decreases-loop : tie.decreases-loop-i
 decreases-loop s from count out₀ at₀ i₀ t8 out at i = count - i
 
 -- the turn of the loop, and the line that is read in it
-abbrev turn : tie.Else1 invariant-loop decreases-loop → tie.At-loop invariant-loop decreases-loop
+abbrev turn : tie.Else-not-line invariant-loop decreases-loop → tie.At-loop-i invariant-loop decreases-loop
 turn c = c.before.before.before.before.before
 
-one : (c : tie.Else1 invariant-loop decreases-loop) → HexField (at_word ++ eq) 4 (turn c).before.before.args.s.now (turn c).loop.at c.before.before.keyed-line.result.size
+one : (c : tie.Else-not-line invariant-loop decreases-loop) → HexField (at_word ++ eq) 4 (turn c).before.before.args.s.now (turn c).loop-i.at c.before.before.keyed_line-line.result.size
 one c =
-    let r = c.before.before.keyed-line in
-    hex_field (at_word ++ eq) 4 (turn c).before.before.args.s.now (turn c).loop.at r.result r.ensures.0 (not-false _ c.if1.false)
+    let r = c.before.before.keyed_line-line in
+    hex_field (at_word ++ eq) 4 (turn c).before.before.args.s.now (turn c).loop-i.at r.result r.ensures.0 (not-false _ c.if-not-line.false)
 
-loop-holds : tie.Need-loop-init invariant-loop decreases-loop
-loop-holds c =
+loop-i-init : tie.Need-loop-i-init invariant-loop decreases-loop
+loop-i-init c =
     let a = c.before.args in
     let l = drop a.from a.s.now in
     (omega arith, omega arith, omega arith, filled_none (read_times read_at a.count l) (read_times read_at (a.count - 0) l) (a.from - a.from) (ap (λ (j : ℕ). read_times read_at j l) (let q : a.count ≡ a.count - 0 = omega arith in q)) (omega arith))
 
-slice-aggregate-keyed-line : tie.Need-slice-aggregate-keyed-line invariant-loop decreases-loop
-slice-aggregate-keyed-line c = refl
+keyed_line-line-requires : tie.Need-keyed_line-line-requires invariant-loop decreases-loop
+keyed_line-line-requires c κs = omega arith
 
-keyed-line-requires : tie.Need-keyed-line-requires invariant-loop decreases-loop
-keyed-line-requires c κs = omega arith
+overflow_sub-result : tie.Need-overflow_sub-result invariant-loop decreases-loop
+overflow_sub-result c = omega arith
 
-sub-t13 : tie.Need-overflow-sub-t13 invariant-loop decreases-loop
-sub-t13 c = omega arith
+overflow_add-result : tie.Need-overflow_add-result invariant-loop decreases-loop
+overflow_add-result c = omega (arith, c.before.before.before.keyed_line-line.ensures.1)
 
-add-t14 : tie.Need-overflow-add-t14 invariant-loop decreases-loop
-add-t14 c = omega (arith, c.before.before.before.keyed-line.ensures.1)
-
-returns : tie.Need-returns invariant-loop decreases-loop
-returns c =
+returns-then-not-line : tie.Need-returns-then-not-line invariant-loop decreases-loop
+returns-then-not-line c =
     let t = c.before.before.before.before.before.before in
     let a = t.before.before.args in
-    let l = t.loop in
-    let r = c.before.before.before.keyed-line in
-    (filled_stuck l.out l.i (l.at - a.from) (read_times read_at a.count (drop a.from a.s.now)) (read_times read_at (a.count - l.i) (drop l.at a.s.now)) l.invariant.3 r.result.size (times_stuck read_at a.s.now l.at (a.count - l.i) r.result.size (omega arith) (hex_stuck (at_word ++ eq) 4 a.s.now l.at r.result r.ensures.0 (not-true _ c.before.if1.true))), omega (arith, r.ensures.1))
+    let l = t.loop-i in
+    let r = c.before.before.before.keyed_line-line in
+    (filled_stuck l.out l.i (l.at - a.from) (read_times read_at a.count (drop a.from a.s.now)) (read_times read_at (a.count - l.i) (drop l.at a.s.now)) l.invariant.3 r.result.size (times_stuck read_at a.s.now l.at (a.count - l.i) r.result.size (omega arith) (hex_stuck (at_word ++ eq) 4 a.s.now l.at r.result r.ensures.0 (not-true _ c.before.if-not-line.true))), omega (arith, r.ensures.1))
 
-add-hex-value : tie.Need-overflow-add-hex-value invariant-loop decreases-loop
-add-hex-value c =
+overflow_add-at : tie.Need-overflow_add-at invariant-loop decreases-loop
+overflow_add-at c =
     let f = one c in
-    omega (arith, f.long, c.before.before.keyed-line.ensures.1)
+    omega (arith, f.long, c.before.before.keyed_line-line.ensures.1)
 
-hex-value-requires : tie.Need-hex-value-requires invariant-loop decreases-loop
-hex-value-requires c κs =
+hex_value-requires : tie.Need-hex_value-requires invariant-loop decreases-loop
+hex_value-requires c κs =
     let f = one c in
-    ((omega arith, omega (arith, f.long, c.before.before.keyed-line.ensures.1)), f.digits)
+    ((omega arith, omega (arith, f.long, c.before.before.keyed_line-line.ensures.1)), f.digits)
 
-mul-out : tie.Need-overflow-mul-out invariant-loop decreases-loop
-mul-out c = omega arith
+offset_bounds-out-i : tie.Need-offset_bounds-out-i invariant-loop decreases-loop
+offset_bounds-out-i c = omega arith
 
-array-write-out : tie.Need-array-write-out invariant-loop decreases-loop
-array-write-out c = omega arith
+bounds-out-i : tie.Need-bounds-out-i invariant-loop decreases-loop
+bounds-out-i c = omega arith
 
-add_at : tie.Need-overflow-add-at invariant-loop decreases-loop
-add_at c = omega (arith, c.before.before.before.before.keyed-line.ensures.1)
+overflow_add-at-in-loop-i : tie.Need-overflow_add-at-in-loop-i invariant-loop decreases-loop
+overflow_add-at-in-loop-i c = omega (arith, c.before.before.before.before.keyed_line-line.ensures.1)
 
-add-i : tie.Need-overflow-add-i invariant-loop decreases-loop
-add-i c = omega arith
+overflow_add-i : tie.Need-overflow_add-i invariant-loop decreases-loop
+overflow_add-i c = omega arith
 
-loop-less : tie.Need-loop-smaller invariant-loop decreases-loop
-loop-less c = omega arith
+loop-i-smaller : tie.Need-loop-i-smaller invariant-loop decreases-loop
+loop-i-smaller c = omega arith
 
-loop-again : tie.Need-loop-preserved invariant-loop decreases-loop
-loop-again c =
+loop-i-preserved : tie.Need-loop-i-preserved invariant-loop decreases-loop
+loop-i-preserved c =
     let t = turn c.before.before in
     let a = t.before.before.args in
-    let l = t.loop in
-    let r = c.before.before.before.before.keyed-line in
+    let l = t.loop-i in
+    let r = c.before.before.before.before.keyed_line-line in
     let n = r.result.size in
     let f = one c.before.before in
     let v = c.before.hex_value_lem in (
@@ -99,34 +96,33 @@ loop-again c =
           ∙ ap (λ (j : ℕ). ahead (v.result ∷ []) n (read_times read_at j (drop (l.at + n) a.s.now))) (let q : a.count - l.i - 1 ≡ a.count - (l.i + 1) = omega arith in q)),
     )
 
-sub-t21 : tie.Need-overflow-sub-t21 invariant-loop decreases-loop
-sub-t21 c = omega arith
+overflow_sub-result-2 : tie.Need-overflow_sub-result-2 invariant-loop decreases-loop
+overflow_sub-result-2 c = omega arith
 
-returns-2 : tie.Need-returns-2 invariant-loop decreases-loop
+returns-2 : tie.Need-returns invariant-loop decreases-loop
 returns-2 c =
     let a = c.before.before.before.args in
-    let l = c.before.loop in
+    let l = c.before.loop-i in
     (filled_all l.out l.i (l.at - a.from) (read_times read_at a.count (drop a.from a.s.now)) (read_times read_at (a.count - l.i) (drop l.at a.s.now)) l.invariant.3 (times_end read_at a.s.now l.at (a.count - l.i) (omega arith)), omega arith)
 
-pub write-lines-spec : {M : Type 1} → statement M
-write-lines-spec =
+pub write_lines_spec : {M : Type 1} → statement M
+write_lines_spec =
     tie.close
     (tie.spec
     invariant-loop
     decreases-loop
-    loop-holds
-    slice-aggregate-keyed-line
-    keyed-line-requires
-    sub-t13
-    add-t14
-    returns
-    add-hex-value
-    hex-value-requires
-    mul-out
-    array-write-out
-    add_at
-    add-i
-    loop-less
-    loop-again
-    sub-t21
+    loop-i-init
+    keyed_line-line-requires
+    overflow_sub-result
+    overflow_add-result
+    returns-then-not-line
+    overflow_add-at
+    hex_value-requires
+    offset_bounds-out-i
+    bounds-out-i
+    overflow_add-at-in-loop-i
+    overflow_add-i
+    loop-i-smaller
+    loop-i-preserved
+    overflow_sub-result-2
     returns-2)

@@ -7,70 +7,62 @@ use Rattle.scan.proofs.rules.rule_line.Statement.{statement}
 use Rattle.scan.proofs.rules.rule_line.Tie as tie
 
 -- where a byte of the key stands, and the line is read
-abbrev begun : tie.After-struct-known → tie.Else1
+abbrev begun : tie.After-struct_known-1 → tie.Else-common_bytes-eq0
 begun c = c.before.before.before
 
-slice-aggregate-common-bytes : tie.Need-slice-aggregate-common-bytes
-slice-aggregate-common-bytes c = search rules
+common_bytes-requires : tie.Need-common_bytes-requires
+common_bytes-requires c κs = search rules
 
-common-bytes-requires : tie.Need-common-bytes-requires
-common-bytes-requires c κs = search rules
-
-returns : tie.Need-returns
-returns c =
+returns-then-common_bytes-eq0 : tie.Need-returns-then-common_bytes-eq0
+returns-then-common_bytes-eq0 c =
     let a = c.before.before.before.before.args in
-    let n = c.before.common-bytes in
-    (no_line a.s.now a.at n.result n.ensures.0 c.if1.true, omega arith)
+    let n = c.before.common_bytes in
+    (no_line a.s.now a.at n.result n.ensures.0 c.if-common_bytes-eq0.true, omega arith)
 
-slice-aggregate-keyed-line : tie.Need-slice-aggregate-keyed-line
-slice-aggregate-keyed-line c = search rules
+keyed_line-line-requires : tie.Need-keyed_line-line-requires
+keyed_line-line-requires c κs = search rules
 
-keyed-line-requires : tie.Need-keyed-line-requires
-keyed-line-requires c κs = search rules
-
-returns-2 : tie.Need-returns-2
-returns-2 c =
+returns-then-not-line : tie.Need-returns-then-not-line
+returns-then-not-line c =
     let k = begun c.before in
     let a = k.before.before.before.before.args in
-    let n = k.before.common-bytes in
-    let r = c.before.before.keyed-line in
-    (broken_line a.s.now a.at n.result n.ensures.0 k.if1.left r.result r.ensures.0 (not-true _ c.if2.true), r.ensures.1)
+    let n = k.before.common_bytes in
+    let r = c.before.before.keyed_line-line in
+    (broken_line a.s.now a.at n.result n.ensures.0 k.if-common_bytes-eq0.left r.result r.ensures.0 (not-true _ c.if-not-line.true), r.ensures.1)
 
-add-rule-of : tie.Need-overflow-add-rule-of
-add-rule-of c = search rules
+overflow_add-at : tie.Need-overflow_add-at
+overflow_add-at c = search rules
 
-shared-slice-read-rule-of : tie.Need-shared-slice-read-rule-of
-shared-slice-read-rule-of c =
+bounds-s-at : tie.Need-bounds-s-at
+bounds-s-at c =
     let e = c.before in
     let k = begun e.before in
     let a = k.before.before.before.before.args in
-    let n = k.before.common-bytes in
-    let r = e.before.before.keyed-line in
-    omega (arith, (whole_field a.s.now a.at n.result n.ensures.0 k.if1.left r.result r.ensures.0 (not-false _ e.if2.false)).long, r.ensures.1)
+    let n = k.before.common_bytes in
+    let r = e.before.before.keyed_line-line in
+    omega (arith, (whole_field a.s.now a.at n.result n.ensures.0 k.if-common_bytes-eq0.left r.result r.ensures.0 (not-false _ e.if-not-line.false)).long, r.ensures.1)
 
-rule-of-requires : tie.Need-rule-of-requires
-rule-of-requires c κs = search rules
+rule_of-rule-requires : tie.Need-rule_of-rule-requires
+rule_of-rule-requires c κs = search rules
 
-returns-3 : tie.Need-returns-3
+returns-3 : tie.Need-returns
 returns-3 c =
     let e = c.before.before in
     let k = begun e.before in
     let a = k.before.before.before.before.args in
-    let n = k.before.common-bytes in
-    let r = e.before.before.keyed-line in
-    (whole_line a.s.now a.at n.result n.ensures.0 k.if1.left r.result r.ensures.0 (not-false _ e.if2.false) c.rule-of.result c.rule-of.ensures, r.ensures.1)
+    let n = k.before.common_bytes in
+    let r = e.before.before.keyed_line-line in
+    (whole_line a.s.now a.at n.result n.ensures.0 k.if-common_bytes-eq0.left r.result r.ensures.0 (not-false _ e.if-not-line.false) c.rule_of-rule.result c.rule_of-rule.ensures, r.ensures.1)
 
-pub rule-line-spec : {M : Type 1} → statement M
-rule-line-spec =
+pub rule_line_spec : {M : Type 1} → statement M
+rule_line_spec =
     tie.close
     (tie.spec
-    slice-aggregate-common-bytes
-    common-bytes-requires
-    returns
-    slice-aggregate-keyed-line
-    keyed-line-requires
-    returns-2
-    add-rule-of
-    shared-slice-read-rule-of
-    rule-of-requires
+    common_bytes-requires
+    returns-then-common_bytes-eq0
+    keyed_line-line-requires
+    returns-then-not-line
+    overflow_add-at
+    bounds-s-at
+    rule_of-rule-requires
     returns-3)

@@ -7,57 +7,57 @@ use Rattle.scan.proofs.rules.ruled_count.Statement.{statement}
 use Rattle.scan.proofs.rules.ruled_count.Tie as tie
 
 -- past the line of the rule, where that of the number of writes is read
-abbrev ruled : tie.After-struct-known3 → tie.Else1
+abbrev ruled : tie.After-struct_known-3-1 → tie.Else-not-line
 ruled c = c.before.before.before
 
-rule-line-requires : tie.Need-rule-line-requires
-rule-line-requires c κs = search rules
+rule_line-line-requires : tie.Need-rule_line-line-requires
+rule_line-line-requires c κs = search rules
 
-returns : tie.Need-returns
-returns c =
+returns-then-not-line : tie.Need-returns-then-not-line
+returns-then-not-line c =
     let a = c.before.before.before.before.args in
-    let r = c.before.before.rule-line in
-    (no_rule a.s.now a.at r.result r.ensures.0 (not-true _ c.if1.true), r.ensures.1)
+    let r = c.before.before.rule_line-line in
+    (no_rule a.s.now a.at r.result r.ensures.0 (not-true _ c.if-not-line.true), r.ensures.1)
 
-add-count-line : tie.Need-overflow-add-count-line
-add-count-line c = search rules
+overflow_add-at : tie.Need-overflow_add-at
+overflow_add-at c = search rules
 
-count-line-requires : tie.Need-count-line-requires
-count-line-requires c κs = search rules
+count_line-count-requires : tie.Need-count_line-count-requires
+count_line-count-requires c κs = search rules
 
-add-t9 : tie.Need-overflow-add-t9
-add-t9 c = search rules
+overflow_add-result : tie.Need-overflow_add-result
+overflow_add-result c = search rules
 
-returns-2 : tie.Need-returns-2
-returns-2 c =
+returns-then-not-count : tie.Need-returns-then-not-count
+returns-then-not-count c =
     let p = c.before.before in
     let e = ruled p.before in
     let a = e.before.before.before.before.args in
-    let r = e.before.before.rule-line in
-    let n = p.before.before.count-line in
-    (no_count a.s.now a.at r.result r.ensures.0 (not-false _ e.if1.left) n.result n.ensures.0 (not-true _ p.if2.true), omega (arith, n.ensures.1))
+    let r = e.before.before.rule_line-line in
+    let n = p.before.before.count_line-count in
+    (no_count a.s.now a.at r.result r.ensures.0 (not-false _ e.if-not-line.left) n.result n.ensures.0 (not-true _ p.if-not-count.true), omega (arith, n.ensures.1))
 
-add-t8 : tie.Need-overflow-add-t8
-add-t8 c = search rules
+overflow_add-result-2 : tie.Need-overflow_add-result-2
+overflow_add-result-2 c = search rules
 
-returns-3 : tie.Need-returns-3
+returns-3 : tie.Need-returns
 returns-3 c =
     let p = c.before.before in
     let e = ruled p.before in
     let a = e.before.before.before.before.args in
-    let r = e.before.before.rule-line in
-    let n = p.before.before.count-line in
-    (both_whole a.s.now a.at r.result r.ensures.0 (not-false _ e.if1.left) n.result n.ensures.0 (not-false _ p.if2.false), omega (arith, n.ensures.1))
+    let r = e.before.before.rule_line-line in
+    let n = p.before.before.count_line-count in
+    (both_whole a.s.now a.at r.result r.ensures.0 (not-false _ e.if-not-line.left) n.result n.ensures.0 (not-false _ p.if-not-count.false), omega (arith, n.ensures.1))
 
-pub ruled-count-spec : {M : Type 1} → statement M
-ruled-count-spec =
+pub ruled_count_spec : {M : Type 1} → statement M
+ruled_count_spec =
     tie.close
     (tie.spec
-    rule-line-requires
-    returns
-    add-count-line
-    count-line-requires
-    add-t9
-    returns-2
-    add-t8
+    rule_line-line-requires
+    returns-then-not-line
+    overflow_add-at
+    count_line-count-requires
+    overflow_add-result
+    returns-then-not-count
+    overflow_add-result-2
     returns-3)
