@@ -4,12 +4,16 @@ use base.Logic.{emp, id⊢}
 use Rattle.promises.specs.Fixes.{Operation, Fixes, whole, one_tells}
 use Rattle.answer.proofs.Answers.{one_answer}
 use Rattle.answer.proofs.number as number
+use Rattle.answer.specs.contracts.number as number_contract
 use Rattle.answer.proofs.place as place
+use Rattle.answer.specs.contracts.place as place_contract
 use Rattle.answer.proofs.value as value
+use Rattle.answer.specs.contracts.value as value_contract
 use Rattle.answer.proofs.check as check
+use Rattle.answer.specs.contracts.check as check_contract
 
 abbrev pub number_op : Operation
-number_op = record { key = number.Key.name; T = number.ended; clauses = λ M. number.clauses; Says = number.Reads.Learnt; O = _; seen = λ κs. whole }
+number_op = record { key = number.Symbol.name; T = number_contract.ended; clauses = λ M 𝓤 𝓛. number_contract.clauses 𝓛; Says = number.Reads.Learnt; O = _; seen = λ κs. whole }
 
 pub number_fixes : Fixes number_op
 number_fixes = record {
@@ -19,7 +23,7 @@ number_fixes = record {
 }
 
 abbrev pub place_op : Operation
-place_op = record { key = place.Key.name; T = place.ended; clauses = λ M. place.clauses; Says = place.Reads.Learnt; O = _; seen = λ κs. whole }
+place_op = record { key = place.Symbol.name; T = place_contract.ended; clauses = λ M 𝓤 𝓛. place_contract.clauses 𝓛; Says = place.Reads.Learnt; O = _; seen = λ κs. whole }
 
 pub place_fixes : Fixes place_op
 place_fixes = record {
@@ -29,7 +33,7 @@ place_fixes = record {
 }
 
 abbrev pub value_op : Operation
-value_op = record { key = value.Key.name; T = value.ended; clauses = λ M. value.clauses; Says = value.Reads.Learnt; O = _; seen = λ κs. whole }
+value_op = record { key = value.Symbol.name; T = value_contract.ended; clauses = λ M 𝓤 𝓛. value_contract.clauses 𝓛; Says = value.Reads.Learnt; O = _; seen = λ κs. whole }
 
 pub value_fixes : Fixes value_op
 value_fixes = record {
@@ -39,7 +43,7 @@ value_fixes = record {
 }
 
 abbrev pub check_op : Operation
-check_op = record { key = check.Key.name; T = check.ended; clauses = λ M. check.clauses; Says = check.Reads.Learnt; O = _; seen = λ κs. whole }
+check_op = record { key = check.Symbol.name; T = check_contract.ended; clauses = λ M 𝓤 𝓛. check_contract.clauses 𝓛; Says = check.Reads.Learnt; O = _; seen = λ κs. whole }
 
 pub check_fixes : Fixes check_op
 check_fixes = record {

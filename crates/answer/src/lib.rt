@@ -1,4 +1,6 @@
 // What an operation answers, and what a clerk is told of it.
+#![tactic(auto)]
+
 ghost use Rattle.std.specs.Prelude.{◌≡◌};
 ghost use Rattle.promises.specs.Order.{check, after};
 ghost use Rattle.answer.specs.Told.{unfit_number, later_number, spot_number, told_of};

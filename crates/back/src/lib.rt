@@ -1,4 +1,6 @@
 // Reading a frame back into the strip that it shows.
+#![tactic(auto)]
+
 ghost use Rattle.std.specs.Prelude.{◌≡◌, true, false, ℕ, ◌+◌, ◌*◌, ◌/◌, ◌<◌, ◌≤◌, length, get_or};
 ghost use Rattle.promises.specs.Written.{Filled};
 ghost use Rattle.promises.specs.Told.{done};

@@ -3,9 +3,10 @@ use mathlib.Core.Path.{refl, sym, ◌∙◌}
 use base.Logic.{emp, id⊢}
 use Rattle.promises.specs.Fixes.{Operation, Fixes, whole, one_tells}
 use Rattle.buffer.proofs.store as store
+use Rattle.buffer.specs.contracts.store as store_contract
 
 abbrev pub store_op : Operation
-store_op = record { key = store.Key.name; T = store.ended; clauses = λ M. store.clauses; Says = store.Reads.Learnt; O = _; seen = λ κs. whole }
+store_op = record { key = store.Symbol.name; T = store_contract.ended; clauses = λ M 𝓤 𝓛. store_contract.clauses 𝓛; Says = store.Reads.Learnt; O = _; seen = λ κs. whole }
 
 pub store_fixes : Fixes store_op
 store_fixes = record {

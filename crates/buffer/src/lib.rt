@@ -1,4 +1,6 @@
 // Storing bytes in a lent buffer.
+#![tactic(auto)]
+
 ghost use Rattle.std.specs.Prelude.{◌≡◌, min, length, get_or};
 ghost use Rattle.promises.specs.Written.{written};
 

@@ -11,13 +11,13 @@ use Rattle.plans.specs.Canvas.{lay_told, entries_after, canvas_after}
 use Rattle.canvas.specs.contracts.lay as lay
 
 -- what the three `ensures` tell: written out here, since the compiler reads no contract of a function that is walked by hand; `tells` ties it to the source
-abbrev Told-by-lay : (κs : Lfts 3) → Args (lay.ended).signature κs → Res (lay.ended).signature κs → AtExit lay.ended κs → Type 0
+abbrev Told-by-lay : (κs : Lfts 3) → Args (lay_contract.ended).signature κs → Res (lay_contract.ended).signature κs → AtExit lay_contract.ended κs → Type 0
 Told-by-lay κs (frame, (ps, (width, (height, (canvas, _))))) z (_, (ps', (_, (_, (canvas', _))))) =
     (told_of z ≡ lay_told frame.now ps.now width height canvas.now)
     × ((ps'.now ≡ entries_after frame.now ps.now width height canvas.now) × (canvas'.now ≡ canvas_after frame.now ps.now width height canvas.now))
 
 abbrev pub lay_op : Operation
-lay_op = record { key = lay.Key.name; T = lay.ended; clauses = λ M. lay.clauses; Says = Told-by-lay; O = _; seen = λ κs. whole }
+lay_op = record { key = lay.Symbol.name; T = lay_contract.ended; clauses = λ M 𝓤 𝓛. lay_contract.clauses 𝓛; Says = Told-by-lay; O = _; seen = λ κs. whole }
 
 -- the answer is fixed, and so are all the entries and the whole canvas
 pub lay_fixes : Fixes lay_op

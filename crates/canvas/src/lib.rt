@@ -1,4 +1,6 @@
 // Adjoining plans on one canvas: rectangles of one frame laid over each other at signed positions.
+#![tactic(auto)]
+
 ghost use Rattle.std.specs.Prelude.{◌≡◌, [], ◌∷◌, ◌+◌, ◌-◌, ◌*◌, ◌≤◌, ◌<◌, min, eqb, length, get_or};
 ghost use Rattle.promises.specs.Choose.{choose};
 ghost use Rattle.promises.specs.Written.{Filled};

@@ -1,4 +1,6 @@
 // The two checksums of a PNG file: CRC-32 of a chunk, and Adler-32 of what a zlib stream holds.
+#![tactic(auto)]
+
 ghost use Rattle.std.specs.Prelude.{◌≡◌, ◌+◌, ◌*◌, ◌/◌, ◌%◌, ◌<◌, ◌≤◌, min, length, get_or};
 ghost use Rattle.std.specs.Int.Bits.{bit_xor};
 ghost use Rattle.checksum.specs.Crc.{crc_bit, crc_bits, crc_after, crc};

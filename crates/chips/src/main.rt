@@ -1,4 +1,6 @@
 // Brings what was read off the chips to an image, or back: standard input to standard output, by the arguments k and `image` or `chip`.
+#![tactic(auto)]
+
 use answer::Answer;
 use libc::{STDERR_FILENO, STDIN_FILENO, STDOUT_FILENO};
 

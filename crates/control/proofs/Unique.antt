@@ -4,9 +4,10 @@ use base.Logic.{emp, id⊢}
 use Rattle.promises.specs.Fixes.{Operation, Fixes, whole, one_tells}
 use Rattle.answer.proofs.Answers.{one_answer}
 use Rattle.control.proofs.play as play
+use Rattle.control.specs.contracts.play as play_contract
 
 abbrev pub play_op : Operation
-play_op = record { key = play.Key.name; T = play.ended; clauses = λ M. play.clauses; Says = play.Reads.Learnt; O = _; seen = λ κs. whole }
+play_op = record { key = play.Symbol.name; T = play_contract.ended; clauses = λ M 𝓤 𝓛. play_contract.clauses 𝓛; Says = play.Reads.Learnt; O = _; seen = λ κs. whole }
 
 pub play_fixes : Fixes play_op
 play_fixes = record {

@@ -1,4 +1,6 @@
 // Control writes played over the SAM's control word.
+#![tactic(auto)]
+
 ghost use Rattle.std.specs.Prelude.{◌≡◌, true};
 ghost use Rattle.answer.specs.Told.{told_of};
 ghost use Rattle.control.specs.Control.{is_control, word_after, play_told};

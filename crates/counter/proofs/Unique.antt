@@ -2,17 +2,25 @@
 use Rattle.std.proofs.Common.{sym, refl, ◌∙◌}
 use base.Logic.{emp, id⊢}
 use Rattle.promises.specs.Fixes.{Operation, Fixes, whole, one_tells}
-use Rattle.counter.proofs.line_lasts as line-lasts
-use Rattle.counter.proofs.one_stretch as one-stretch
+use Rattle.counter.proofs.line_lasts as line_lasts
+use Rattle.counter.specs.contracts.line_lasts as line_lasts_contract
+use Rattle.counter.proofs.one_stretch as one_stretch
+use Rattle.counter.specs.contracts.one_stretch as one_stretch_contract
 use Rattle.counter.proofs.line_step as line_step
-use Rattle.counter.proofs.row_lasts as row-lasts
+use Rattle.counter.specs.contracts.line_step as line_step_contract
+use Rattle.counter.proofs.row_lasts as row_lasts
+use Rattle.counter.specs.contracts.row_lasts as row_lasts_contract
 use Rattle.counter.proofs.start as start
+use Rattle.counter.specs.contracts.start as start_contract
 use Rattle.counter.proofs.Counter.carry as carry
+use Rattle.counter.specs.contracts.Counter.carry as carry_contract
 use Rattle.counter.proofs.Counter.advance as advance
+use Rattle.counter.specs.contracts.Counter.advance as advance_contract
 use Rattle.counter.proofs.Counter.clear as clear
+use Rattle.counter.specs.contracts.Counter.clear as clear_contract
 
 abbrev pub line_lasts_op : Operation
-line_lasts_op = record { key = line-lasts.Key.name; T = line-lasts.ended; clauses = λ M. line-lasts.clauses; Says = line-lasts.Reads.Learnt; O = _; seen = λ κs. whole }
+line_lasts_op = record { key = line_lasts.Symbol.name; T = line_lasts_contract.ended; clauses = λ M 𝓤 𝓛. line_lasts_contract.clauses 𝓛; Says = line_lasts.Reads.Learnt; O = _; seen = λ κs. whole }
 
 pub line_lasts_fixes : Fixes line_lasts_op
 line_lasts_fixes = record {
@@ -22,7 +30,7 @@ line_lasts_fixes = record {
 }
 
 abbrev pub one_stretch_op : Operation
-one_stretch_op = record { key = one-stretch.Key.name; T = one-stretch.ended; clauses = λ M. one-stretch.clauses; Says = one-stretch.Reads.Learnt; O = _; seen = λ κs. whole }
+one_stretch_op = record { key = one_stretch.Symbol.name; T = one_stretch_contract.ended; clauses = λ M 𝓤 𝓛. one_stretch_contract.clauses 𝓛; Says = one_stretch.Reads.Learnt; O = _; seen = λ κs. whole }
 
 pub one_stretch_fixes : Fixes one_stretch_op
 one_stretch_fixes = record {
@@ -32,7 +40,7 @@ one_stretch_fixes = record {
 }
 
 abbrev pub line_step_op : Operation
-line_step_op = record { key = line_step.Key.name; T = line_step.ended; clauses = λ M. line_step.clauses; Says = line_step.Reads.Learnt; O = _; seen = λ κs. whole }
+line_step_op = record { key = line_step.Symbol.name; T = line_step_contract.ended; clauses = λ M 𝓤 𝓛. line_step_contract.clauses 𝓛; Says = line_step.Reads.Learnt; O = _; seen = λ κs. whole }
 
 pub line_step_fixes : Fixes line_step_op
 line_step_fixes = record {
@@ -42,7 +50,7 @@ line_step_fixes = record {
 }
 
 abbrev pub row_lasts_op : Operation
-row_lasts_op = record { key = row-lasts.Key.name; T = row-lasts.ended; clauses = λ M. row-lasts.clauses; Says = row-lasts.Reads.Learnt; O = _; seen = λ κs. whole }
+row_lasts_op = record { key = row_lasts.Symbol.name; T = row_lasts_contract.ended; clauses = λ M 𝓤 𝓛. row_lasts_contract.clauses 𝓛; Says = row_lasts.Reads.Learnt; O = _; seen = λ κs. whole }
 
 pub row_lasts_fixes : Fixes row_lasts_op
 row_lasts_fixes = record {
@@ -52,7 +60,7 @@ row_lasts_fixes = record {
 }
 
 abbrev pub start_op : Operation
-start_op = record { key = start.Key.name; T = start.ended; clauses = λ M. start.clauses; Says = start.Reads.Learnt; O = _; seen = λ κs. whole }
+start_op = record { key = start.Symbol.name; T = start_contract.ended; clauses = λ M 𝓤 𝓛. start_contract.clauses 𝓛; Says = start.Reads.Learnt; O = _; seen = λ κs. whole }
 
 pub start_fixes : Fixes start_op
 start_fixes = record {
@@ -62,7 +70,7 @@ start_fixes = record {
 }
 
 abbrev pub carry_op : Operation
-carry_op = record { key = carry.Key.name; T = carry.ended; clauses = λ M. carry.clauses; Says = carry.Reads.Learnt; O = _; seen = λ κs. whole }
+carry_op = record { key = carry.Symbol.name; T = carry_contract.ended; clauses = λ M 𝓤 𝓛. carry_contract.clauses 𝓛; Says = carry.Reads.Learnt; O = _; seen = λ κs. whole }
 
 pub carry_fixes : Fixes carry_op
 carry_fixes = record {
@@ -72,7 +80,7 @@ carry_fixes = record {
 }
 
 abbrev pub advance_op : Operation
-advance_op = record { key = advance.Key.name; T = advance.ended; clauses = λ M. advance.clauses; Says = advance.Reads.Learnt; O = _; seen = λ κs. whole }
+advance_op = record { key = advance.Symbol.name; T = advance_contract.ended; clauses = λ M 𝓤 𝓛. advance_contract.clauses 𝓛; Says = advance.Reads.Learnt; O = _; seen = λ κs. whole }
 
 pub advance_fixes : Fixes advance_op
 advance_fixes = record {
@@ -82,7 +90,7 @@ advance_fixes = record {
 }
 
 abbrev pub clear_op : Operation
-clear_op = record { key = clear.Key.name; T = clear.ended; clauses = λ M. clear.clauses; Says = clear.Reads.Learnt; O = _; seen = λ κs. whole }
+clear_op = record { key = clear.Symbol.name; T = clear_contract.ended; clauses = λ M 𝓤 𝓛. clear_contract.clauses 𝓛; Says = clear.Reads.Learnt; O = _; seen = λ κs. whole }
 
 pub clear_fixes : Fixes clear_op
 clear_fixes = record {

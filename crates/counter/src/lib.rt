@@ -1,4 +1,6 @@
 // The SAM's video address counter.
+#![tactic(auto)]
+
 ghost use Rattle.std.specs.Prelude.{◌≡◌, ◌<◌, slice_index};
 ghost use Rattle.counter.specs.Counter.{times_x, times_y, kept_from, start, fall, carry, advance, cleared, clearing_counts, clear};
 ghost use Rattle.counter.specs.Steps.{clears_b4, ends_count, row_lasts, line_lasts, one_stretch, line_step};

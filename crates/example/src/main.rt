@@ -1,4 +1,6 @@
 // The worked example: reads an image from standard input, and writes the frame that its sheet asks for.
+#![tactic(auto)]
+
 use libc::{STDERR_FILENO, STDIN_FILENO, STDOUT_FILENO};
 
 fn main() {

@@ -4,9 +4,10 @@ use base.Logic.{emp, id⊢}
 use Rattle.promises.specs.Fixes.{Operation, Fixes, whole, two_tell}
 use Rattle.answer.proofs.Answers.{one_answer}
 use Rattle.frame.proofs.draw as draw
+use Rattle.frame.specs.contracts.draw as draw_contract
 
 abbrev pub draw_op : Operation
-draw_op = record { key = draw.Key.name; T = draw.ended; clauses = λ M. draw.clauses; Says = draw.Reads.Learnt; O = _; seen = λ κs. whole }
+draw_op = record { key = draw.Symbol.name; T = draw_contract.ended; clauses = λ M 𝓤 𝓛. draw_contract.clauses 𝓛; Says = draw.Reads.Learnt; O = _; seen = λ κs. whole }
 
 pub draw_fixes : Fixes draw_op
 draw_fixes = record {

@@ -1,4 +1,6 @@
 // Drawing: the bytes of a strip as the pixels of a frame.
+#![tactic(auto)]
+
 mod graphics;
 mod letters;
 mod tables;

@@ -1,4 +1,6 @@
 // From a sheet to the settings that it gives: its writes played from reset, its pins, and its rule.
+#![tactic(auto)]
+
 ghost use Rattle.std.specs.Prelude.{◌≡◌};
 ghost use Rattle.promises.specs.Told.{done};
 ghost use Rattle.promises.specs.Order.{first_of};

@@ -1,4 +1,6 @@
 // Notes that stand on the cover: which of two sheets has a key, and the first value under it as a part of that sheet.
+#![tactic(auto)]
+
 ghost use Rattle.std.specs.Prelude.{◌≡◌, ◌+◌, ◌≤◌, true, false, length, drop};
 ghost use Rattle.answer.specs.Told.{told_of};
 ghost use Rattle.grammar.specs.Given.{accepted, tail_from};

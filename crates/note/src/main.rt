@@ -1,4 +1,6 @@
 // A clerk's note: the first value under a key in a record's sheet, or failing that on the cover of its batch.
+#![tactic(auto)]
+
 mod reading;
 
 use answer::Answer;

@@ -34,7 +34,7 @@ module _ (o : Operation) where
 
   -- the source's clauses at a model
   abbrev at : (w : World) → Clauses w.𝓤 o.T
-  at w = o.clauses w.M w.𝓤 w.𝓛 w.𝓜.mem w.𝓡.run
+  at w = o.clauses w.M w.𝓤 w.𝓛 w.𝓜.mem w.𝓡.returns
 
   -- the contract allows that a call with the arguments a gives the result z and leaves ws behind its `&mut` parameters
   abbrev pub Allows : (κs : Lifetimes) (a : Taken κs) → Result κs → Lasts o.T κs a → Type 0

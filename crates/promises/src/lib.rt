@@ -1,1 +1,3 @@
 // How promises are written: definitions and laws only, no code.
+#![tactic(auto)]
+

@@ -1,4 +1,6 @@
 // The report: reads a sheet from standard input and prints what a clerk sees.
+#![tactic(auto)]
+
 use libc::{STDERR_FILENO, STDIN_FILENO, STDOUT_FILENO};
 
 // Whether standard input has ended: one read more then answers 0, and -1 where it cannot be read.

@@ -3,10 +3,12 @@ use mathlib.Core.Path.{refl, sym, ◌∙◌}
 use base.Logic.{emp, id⊢}
 use Rattle.promises.specs.Fixes.{Operation, Fixes, whole, one_tells}
 use Rattle.report_text.proofs.report as report
-use Rattle.report_text.proofs.report_after as report-after
+use Rattle.report_text.specs.contracts.report as report_contract
+use Rattle.report_text.proofs.report_after as report_after
+use Rattle.report_text.specs.contracts.report_after as report_after_contract
 
 abbrev pub report_op : Operation
-report_op = record { key = report.Key.name; T = report.ended; clauses = λ M. report.clauses; Says = report.Reads.Learnt; O = _; seen = λ κs. whole }
+report_op = record { key = report.Symbol.name; T = report_contract.ended; clauses = λ M 𝓤 𝓛. report_contract.clauses 𝓛; Says = report.Reads.Learnt; O = _; seen = λ κs. whole }
 
 pub report_fixes : Fixes report_op
 report_fixes = record {
@@ -16,7 +18,7 @@ report_fixes = record {
 }
 
 abbrev pub report_after_op : Operation
-report_after_op = record { key = report-after.Key.name; T = report-after.ended; clauses = λ M. report-after.clauses; Says = report-after.Reads.Learnt; O = _; seen = λ κs. whole }
+report_after_op = record { key = report_after.Symbol.name; T = report_after_contract.ended; clauses = λ M 𝓤 𝓛. report_after_contract.clauses 𝓛; Says = report_after.Reads.Learnt; O = _; seen = λ κs. whole }
 
 pub report_after_fixes : Fixes report_after_op
 report_after_fixes = record {

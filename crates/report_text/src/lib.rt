@@ -1,4 +1,6 @@
 // The report's text, whole.
+#![tactic(auto)]
+
 ghost use Rattle.std.specs.Prelude.{◌≡◌, ◌+◌, ◌≤◌, ◌<◌, [], ◌++◌, length, drop};
 ghost use Rattle.answer.specs.Told.{told_of};
 ghost use Rattle.text.specs.Hex.{hex_digit, hex};

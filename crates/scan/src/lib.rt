@@ -1,4 +1,6 @@
 // One pass over a sheet where it lies: its fields, and the places of its deed and its annotation lines.
+#![tactic(auto)]
+
 mod lines;
 mod notes;
 mod numbers;

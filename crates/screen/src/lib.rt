@@ -1,4 +1,6 @@
 // Both at once: the strip fetched and the frame drawn.
+#![tactic(auto)]
+
 ghost use Rattle.std.specs.Prelude.{◌≡◌, length};
 ghost use Rattle.promises.specs.Told.{done};
 ghost use Rattle.promises.specs.Order.{first_of};

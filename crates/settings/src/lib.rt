@@ -1,4 +1,6 @@
 // What is read off a control word and a pin byte: the SAM's fields, the video chip's pins, and the mode they name.
+#![tactic(auto)]
+
 ghost use Rattle.std.specs.Prelude.{◌≡◌, ◌<◌};
 ghost use Rattle.promises.specs.Order.{after};
 ghost use Rattle.answer.specs.Told.{told_of};

@@ -5,12 +5,16 @@ use Rattle.promises.specs.Fixes.{Operation, Fixes, whole, placed, one_tells}
 use Rattle.promises.proofs.Parts.{one_part}
 use Rattle.answer.proofs.Answers.{one_answer}
 use Rattle.sheet.proofs.read as read
+use Rattle.sheet.specs.contracts.read as read_contract
 use Rattle.sheet.proofs.deed as deed
+use Rattle.sheet.specs.contracts.deed as deed_contract
 use Rattle.sheet.proofs.annotation as annotation
+use Rattle.sheet.specs.contracts.annotation as annotation_contract
 use Rattle.sheet.proofs.tail as tail
+use Rattle.sheet.specs.contracts.tail as tail_contract
 
 abbrev pub read_op : Operation
-read_op = record { key = read.Key.name; T = read.ended; clauses = λ M. read.clauses; Says = read.Reads.Learnt; O = _; seen = λ κs. whole }
+read_op = record { key = read.Symbol.name; T = read_contract.ended; clauses = λ M 𝓤 𝓛. read_contract.clauses 𝓛; Says = read.Reads.Learnt; O = _; seen = λ κs. whole }
 
 pub read_fixes : Fixes read_op
 read_fixes = record {
@@ -30,7 +34,7 @@ read_fixes = record {
 }
 
 abbrev pub deed_op : Operation
-deed_op = record { key = deed.Key.name; T = deed.ended; clauses = λ M. deed.clauses; Says = deed.Reads.Learnt; O = _; seen = λ κs. placed }
+deed_op = record { key = deed.Symbol.name; T = deed_contract.ended; clauses = λ M 𝓤 𝓛. deed_contract.clauses 𝓛; Says = deed.Reads.Learnt; O = _; seen = λ κs. placed }
 
 pub deed_fixes : Fixes deed_op
 deed_fixes = record {
@@ -40,7 +44,7 @@ deed_fixes = record {
 }
 
 abbrev pub annotation_op : Operation
-annotation_op = record { key = annotation.Key.name; T = annotation.ended; clauses = λ M. annotation.clauses; Says = annotation.Reads.Learnt; O = _; seen = λ κs. placed }
+annotation_op = record { key = annotation.Symbol.name; T = annotation_contract.ended; clauses = λ M 𝓤 𝓛. annotation_contract.clauses 𝓛; Says = annotation.Reads.Learnt; O = _; seen = λ κs. placed }
 
 pub annotation_fixes : Fixes annotation_op
 annotation_fixes = record {
@@ -50,7 +54,7 @@ annotation_fixes = record {
 }
 
 abbrev pub tail_op : Operation
-tail_op = record { key = tail.Key.name; T = tail.ended; clauses = λ M. tail.clauses; Says = tail.Reads.Learnt; O = _; seen = λ κs. placed }
+tail_op = record { key = tail.Symbol.name; T = tail_contract.ended; clauses = λ M 𝓤 𝓛. tail_contract.clauses 𝓛; Says = tail.Reads.Learnt; O = _; seen = λ κs. placed }
 
 pub tail_fixes : Fixes tail_op
 tail_fixes = record {

@@ -1,4 +1,6 @@
 // The sheet: what it holds, and its deed and its annotation lines as parts of the lent bytes.
+#![tactic(auto)]
+
 ghost use Rattle.std.specs.Prelude.{length};
 ghost use Rattle.promises.specs.Part.{PartOf};
 ghost use Rattle.grammar.specs.Sheet.{lines};

@@ -4,11 +4,13 @@ use base.Logic.{emp, id⊢}
 use Rattle.promises.specs.Fixes.{Operation, Fixes, whole, one_tells, three_tell}
 use Rattle.answer.specs.declared.Answer.{Answer}
 use Rattle.answer.proofs.Answers.{one_answer}
-use Rattle.strip.proofs.not_fitted as not-fitted
+use Rattle.strip.proofs.not_fitted as not_fitted
+use Rattle.strip.specs.contracts.not_fitted as not_fitted_contract
 use Rattle.strip.proofs.fetch as fetch
+use Rattle.strip.specs.contracts.fetch as fetch_contract
 
 abbrev pub not_fitted_op : Operation
-not_fitted_op = record { key = not-fitted.Key.name; T = not-fitted.ended; clauses = λ M. not-fitted.clauses; Says = not-fitted.Reads.Learnt; O = _; seen = λ κs. whole }
+not_fitted_op = record { key = not_fitted.Symbol.name; T = not_fitted_contract.ended; clauses = λ M 𝓤 𝓛. not_fitted_contract.clauses 𝓛; Says = not_fitted.Reads.Learnt; O = _; seen = λ κs. whole }
 
 pub not_fitted_fixes : Fixes not_fitted_op
 not_fitted_fixes = record {
@@ -18,7 +20,7 @@ not_fitted_fixes = record {
 }
 
 abbrev pub fetch_op : Operation
-fetch_op = record { key = fetch.Key.name; T = fetch.ended; clauses = λ M. fetch.clauses; Says = fetch.Reads.Learnt; O = _; seen = λ κs. whole }
+fetch_op = record { key = fetch.Symbol.name; T = fetch_contract.ended; clauses = λ M 𝓤 𝓛. fetch_contract.clauses 𝓛; Says = fetch.Reads.Learnt; O = _; seen = λ κs. whole }
 
 pub fetch_fixes : Fixes fetch_op
 fetch_fixes = record {

@@ -1,4 +1,6 @@
 // The strip of fetched bytes, and how many bytes of the image it touched.
+#![tactic(auto)]
+
 ghost use Rattle.std.specs.Prelude.{◌≡◌, ◌+◌, ◌-◌, ◌*◌, ◌%◌, ◌≤◌, true, false, ◌⊎◌, length, replicate, slice_index};
 ghost use Rattle.promises.specs.Told.{done};
 ghost use Rattle.promises.specs.Order.{first_of, after};

@@ -1,1 +1,3 @@
 // Texts and how they are read: definitions and laws only, no code.
+#![tactic(auto)]
+

@@ -1,4 +1,6 @@
 // Images straight from the chips: an image from what was read off the chips, and back, bank by bank from one buffer into a second.
+#![tactic(auto)]
+
 ghost use Rattle.std.specs.Prelude.{◌≡◌, ◌+◌, ◌-◌, ◌*◌, ◌%◌, ◌<◌, ◌≤◌, length, get_or};
 ghost use Rattle.promises.specs.Written.{Filled};
 ghost use Rattle.answer.specs.Told.{told_of};

@@ -3,26 +3,43 @@ use Rattle.std.proofs.Common.{sym, refl, ◌∙◌}
 use base.Logic.{emp, id⊢}
 use Rattle.promises.specs.Fixes.{Operation, Fixes, whole, placed, one_tells, three_tell}
 use Rattle.promises.proofs.Parts.{one_part}
-use Rattle.trial.proofs.look_of as look-of
-use Rattle.trial.proofs.settings_of as settings-of
+use Rattle.trial.proofs.look_of as look_of
+use Rattle.trial.specs.contracts.look_of as look_of_contract
+use Rattle.trial.proofs.settings_of as settings_of
+use Rattle.trial.specs.contracts.settings_of as settings_of_contract
 use Rattle.trial.proofs.least as least
+use Rattle.trial.specs.contracts.least as least_contract
 use Rattle.trial.proofs.cut as cut
+use Rattle.trial.specs.contracts.cut as cut_contract
 use Rattle.trial.proofs.byte_at as byte_at
+use Rattle.trial.specs.contracts.byte_at as byte_at_contract
 use Rattle.trial.proofs.lay as lay
+use Rattle.trial.specs.contracts.lay as lay_contract
 use Rattle.trial.proofs.mark as mark
-use Rattle.trial.proofs.unchanged_from as unchanged-from
+use Rattle.trial.specs.contracts.mark as mark_contract
+use Rattle.trial.proofs.unchanged_from as unchanged_from
+use Rattle.trial.specs.contracts.unchanged_from as unchanged_from_contract
 use Rattle.trial.proofs.sum as sum
+use Rattle.trial.specs.contracts.sum as sum_contract
 use Rattle.trial.proofs.say as say
+use Rattle.trial.specs.contracts.say as say_contract
 use Rattle.trial.proofs.form as form
+use Rattle.trial.specs.contracts.form as form_contract
 use Rattle.trial.proofs.one as one
-use Rattle.trial.proofs.figure_name as figure-name
-use Rattle.trial.proofs.rule_name as rule-name
-use Rattle.trial.proofs.number_and_place as number-and-place
+use Rattle.trial.specs.contracts.one as one_contract
+use Rattle.trial.proofs.figure_name as figure_name
+use Rattle.trial.specs.contracts.figure_name as figure_name_contract
+use Rattle.trial.proofs.rule_name as rule_name
+use Rattle.trial.specs.contracts.rule_name as rule_name_contract
+use Rattle.trial.proofs.number_and_place as number_and_place
+use Rattle.trial.specs.contracts.number_and_place as number_and_place_contract
 use Rattle.trial.proofs.answered as answered
+use Rattle.trial.specs.contracts.answered as answered_contract
 use Rattle.trial.proofs.quoted as quoted
+use Rattle.trial.specs.contracts.quoted as quoted_contract
 
 abbrev pub look_of_op : Operation
-look_of_op = record { key = look-of.Key.name; T = look-of.ended; clauses = λ M. look-of.clauses; Says = look-of.Reads.Learnt; O = _; seen = λ κs. whole }
+look_of_op = record { key = look_of.Symbol.name; T = look_of_contract.ended; clauses = λ M 𝓤 𝓛. look_of_contract.clauses 𝓛; Says = look_of.Reads.Learnt; O = _; seen = λ κs. whole }
 
 pub look_of_fixes : Fixes look_of_op
 look_of_fixes = record {
@@ -32,7 +49,7 @@ look_of_fixes = record {
 }
 
 abbrev pub settings_of_op : Operation
-settings_of_op = record { key = settings-of.Key.name; T = settings-of.ended; clauses = λ M. settings-of.clauses; Says = settings-of.Reads.Learnt; O = _; seen = λ κs. whole }
+settings_of_op = record { key = settings_of.Symbol.name; T = settings_of_contract.ended; clauses = λ M 𝓤 𝓛. settings_of_contract.clauses 𝓛; Says = settings_of.Reads.Learnt; O = _; seen = λ κs. whole }
 
 pub settings_of_fixes : Fixes settings_of_op
 settings_of_fixes = record {
@@ -49,7 +66,7 @@ settings_of_fixes = record {
 }
 
 abbrev pub least_op : Operation
-least_op = record { key = least.Key.name; T = least.ended; clauses = λ M. least.clauses; Says = least.Reads.Learnt; O = _; seen = λ κs. whole }
+least_op = record { key = least.Symbol.name; T = least_contract.ended; clauses = λ M 𝓤 𝓛. least_contract.clauses 𝓛; Says = least.Reads.Learnt; O = _; seen = λ κs. whole }
 
 pub least_fixes : Fixes least_op
 least_fixes = record {
@@ -59,7 +76,7 @@ least_fixes = record {
 }
 
 abbrev pub cut_op : Operation
-cut_op = record { key = cut.Key.name; T = cut.ended; clauses = λ M. cut.clauses; Says = cut.Reads.Learnt; O = _; seen = λ κs. placed }
+cut_op = record { key = cut.Symbol.name; T = cut_contract.ended; clauses = λ M 𝓤 𝓛. cut_contract.clauses 𝓛; Says = cut.Reads.Learnt; O = _; seen = λ κs. placed }
 
 pub cut_fixes : Fixes cut_op
 cut_fixes = record {
@@ -69,7 +86,7 @@ cut_fixes = record {
 }
 
 abbrev pub byte_at_op : Operation
-byte_at_op = record { key = byte_at.Key.name; T = byte_at.ended; clauses = λ M. byte_at.clauses; Says = byte_at.Reads.Learnt; O = _; seen = λ κs. whole }
+byte_at_op = record { key = byte_at.Symbol.name; T = byte_at_contract.ended; clauses = λ M 𝓤 𝓛. byte_at_contract.clauses 𝓛; Says = byte_at.Reads.Learnt; O = _; seen = λ κs. whole }
 
 pub byte_at_fixes : Fixes byte_at_op
 byte_at_fixes = record {
@@ -79,7 +96,7 @@ byte_at_fixes = record {
 }
 
 abbrev pub lay_op : Operation
-lay_op = record { key = lay.Key.name; T = lay.ended; clauses = λ M. lay.clauses; Says = lay.Reads.Learnt; O = _; seen = λ κs. whole }
+lay_op = record { key = lay.Symbol.name; T = lay_contract.ended; clauses = λ M 𝓤 𝓛. lay_contract.clauses 𝓛; Says = lay.Reads.Learnt; O = _; seen = λ κs. whole }
 
 pub lay_fixes : Fixes lay_op
 lay_fixes = record {
@@ -89,7 +106,7 @@ lay_fixes = record {
 }
 
 abbrev pub mark_op : Operation
-mark_op = record { key = mark.Key.name; T = mark.ended; clauses = λ M. mark.clauses; Says = mark.Reads.Learnt; O = _; seen = λ κs. whole }
+mark_op = record { key = mark.Symbol.name; T = mark_contract.ended; clauses = λ M 𝓤 𝓛. mark_contract.clauses 𝓛; Says = mark.Reads.Learnt; O = _; seen = λ κs. whole }
 
 pub mark_fixes : Fixes mark_op
 mark_fixes = record {
@@ -99,7 +116,7 @@ mark_fixes = record {
 }
 
 abbrev pub unchanged_from_op : Operation
-unchanged_from_op = record { key = unchanged-from.Key.name; T = unchanged-from.ended; clauses = λ M. unchanged-from.clauses; Says = unchanged-from.Reads.Learnt; O = _; seen = λ κs. whole }
+unchanged_from_op = record { key = unchanged_from.Symbol.name; T = unchanged_from_contract.ended; clauses = λ M 𝓤 𝓛. unchanged_from_contract.clauses 𝓛; Says = unchanged_from.Reads.Learnt; O = _; seen = λ κs. whole }
 
 pub unchanged_from_fixes : Fixes unchanged_from_op
 unchanged_from_fixes = record {
@@ -109,7 +126,7 @@ unchanged_from_fixes = record {
 }
 
 abbrev pub sum_op : Operation
-sum_op = record { key = sum.Key.name; T = sum.ended; clauses = λ M. sum.clauses; Says = sum.Reads.Learnt; O = _; seen = λ κs. whole }
+sum_op = record { key = sum.Symbol.name; T = sum_contract.ended; clauses = λ M 𝓤 𝓛. sum_contract.clauses 𝓛; Says = sum.Reads.Learnt; O = _; seen = λ κs. whole }
 
 pub sum_fixes : Fixes sum_op
 sum_fixes = record {
@@ -119,7 +136,7 @@ sum_fixes = record {
 }
 
 abbrev pub say_op : Operation
-say_op = record { key = say.Key.name; T = say.ended; clauses = λ M. say.clauses; Says = say.Reads.Learnt; O = _; seen = λ κs. whole }
+say_op = record { key = say.Symbol.name; T = say_contract.ended; clauses = λ M 𝓤 𝓛. say_contract.clauses 𝓛; Says = say.Reads.Learnt; O = _; seen = λ κs. whole }
 
 pub say_fixes : Fixes say_op
 say_fixes = record {
@@ -129,7 +146,7 @@ say_fixes = record {
 }
 
 abbrev pub form_op : Operation
-form_op = record { key = form.Key.name; T = form.ended; clauses = λ M. form.clauses; Says = form.Reads.Learnt; O = _; seen = λ κs. whole }
+form_op = record { key = form.Symbol.name; T = form_contract.ended; clauses = λ M 𝓤 𝓛. form_contract.clauses 𝓛; Says = form.Reads.Learnt; O = _; seen = λ κs. whole }
 
 pub form_fixes : Fixes form_op
 form_fixes = record {
@@ -139,7 +156,7 @@ form_fixes = record {
 }
 
 abbrev pub one_op : Operation
-one_op = record { key = one.Key.name; T = one.ended; clauses = λ M. one.clauses; Says = one.Reads.Learnt; O = _; seen = λ κs. whole }
+one_op = record { key = one.Symbol.name; T = one_contract.ended; clauses = λ M 𝓤 𝓛. one_contract.clauses 𝓛; Says = one.Reads.Learnt; O = _; seen = λ κs. whole }
 
 pub one_fixes : Fixes one_op
 one_fixes = record {
@@ -149,7 +166,7 @@ one_fixes = record {
 }
 
 abbrev pub figure_name_op : Operation
-figure_name_op = record { key = figure-name.Key.name; T = figure-name.ended; clauses = λ M. figure-name.clauses; Says = figure-name.Reads.Learnt; O = _; seen = λ κs. whole }
+figure_name_op = record { key = figure_name.Symbol.name; T = figure_name_contract.ended; clauses = λ M 𝓤 𝓛. figure_name_contract.clauses 𝓛; Says = figure_name.Reads.Learnt; O = _; seen = λ κs. whole }
 
 pub figure_name_fixes : Fixes figure_name_op
 figure_name_fixes = record {
@@ -159,7 +176,7 @@ figure_name_fixes = record {
 }
 
 abbrev pub rule_name_op : Operation
-rule_name_op = record { key = rule-name.Key.name; T = rule-name.ended; clauses = λ M. rule-name.clauses; Says = rule-name.Reads.Learnt; O = _; seen = λ κs. whole }
+rule_name_op = record { key = rule_name.Symbol.name; T = rule_name_contract.ended; clauses = λ M 𝓤 𝓛. rule_name_contract.clauses 𝓛; Says = rule_name.Reads.Learnt; O = _; seen = λ κs. whole }
 
 pub rule_name_fixes : Fixes rule_name_op
 rule_name_fixes = record {
@@ -169,7 +186,7 @@ rule_name_fixes = record {
 }
 
 abbrev pub number_and_place_op : Operation
-number_and_place_op = record { key = number-and-place.Key.name; T = number-and-place.ended; clauses = λ M. number-and-place.clauses; Says = number-and-place.Reads.Learnt; O = _; seen = λ κs. whole }
+number_and_place_op = record { key = number_and_place.Symbol.name; T = number_and_place_contract.ended; clauses = λ M 𝓤 𝓛. number_and_place_contract.clauses 𝓛; Says = number_and_place.Reads.Learnt; O = _; seen = λ κs. whole }
 
 pub number_and_place_fixes : Fixes number_and_place_op
 number_and_place_fixes = record {
@@ -179,7 +196,7 @@ number_and_place_fixes = record {
 }
 
 abbrev pub answered_op : Operation
-answered_op = record { key = answered.Key.name; T = answered.ended; clauses = λ M. answered.clauses; Says = answered.Reads.Learnt; O = _; seen = λ κs. whole }
+answered_op = record { key = answered.Symbol.name; T = answered_contract.ended; clauses = λ M 𝓤 𝓛. answered_contract.clauses 𝓛; Says = answered.Reads.Learnt; O = _; seen = λ κs. whole }
 
 pub answered_fixes : Fixes answered_op
 answered_fixes = record {
@@ -189,7 +206,7 @@ answered_fixes = record {
 }
 
 abbrev pub quoted_op : Operation
-quoted_op = record { key = quoted.Key.name; T = quoted.ended; clauses = λ M. quoted.clauses; Says = quoted.Reads.Learnt; O = _; seen = λ κs. whole }
+quoted_op = record { key = quoted.Symbol.name; T = quoted_contract.ended; clauses = λ M 𝓤 𝓛. quoted_contract.clauses 𝓛; Says = quoted.Reads.Learnt; O = _; seen = λ κs. whole }
 
 pub quoted_fixes : Fixes quoted_op
 quoted_fixes = record {

@@ -1,4 +1,6 @@
 // What the trial programs share: settings and buffers, made and read, and what is printed of a run.
+#![tactic(auto)]
+
 ghost use Rattle.std.specs.Prelude.{◌≡◌, ◌+◌, ◌*◌, ◌%◌, ◌<◌, min, length, ◌==◌, slice_index};
 ghost use Rattle.promises.specs.Choose.{choose};
 ghost use Rattle.promises.specs.Part.{PartOf};
@@ -7,8 +9,12 @@ ghost use Rattle.settings.specs.declared.Rule.TheVariants.{One, Two};
 ghost use Rattle.trial.specs.Buffers.{run, laid, marked, unchanged_from, sum_of};
 
 use answer::Answer;
-use libc::{STDERR_FILENO, STDOUT_FILENO};
 use settings::{Look, Rule, Settings};
+
+// The system's numbers of standard output and standard error.
+const STDOUT_FILENO: i32 = 1;
+
+const STDERR_FILENO: i32 = 2;
 
 // == Settings and buffers: made, cut short, and read.
 

@@ -1,4 +1,6 @@
 // Tries reading back: each refusal, what is stray, and strips read back from drawn frames by their sums. Prints a line for each call.
+#![tactic(auto)]
+
 use trial::{answered, cut, form, lay, least, look_of, mark, one, sum, unchanged_from};
 
 // == Refusals and their order, with the strip held against what it was before.

@@ -1,4 +1,6 @@
 // Tries plans laid on one canvas: cut at every edge, over each other, on canvases of all shapes, and each refusal. Prints a line for each call.
+#![tactic(auto)]
+
 ghost use Rattle.std.specs.Prelude.{◌≤◌};
 
 use answer::Answer;

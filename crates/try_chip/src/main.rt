@@ -1,4 +1,6 @@
 // Tries chips of each k, both ways, with one bank and two, and each refusal. Prints a line for each call.
+#![tactic(auto)]
+
 use answer::Answer;
 use trial::{answered, byte_at, cut, form, lay, least, mark, one, sum, unchanged_from};
 

@@ -1,4 +1,6 @@
 // Tries control writes: the figures of document 01, each bit, and corners. Prints a line for each.
+#![tactic(auto)]
+
 ghost use Rattle.std.specs.Prelude.{◌<◌};
 
 use trial::{cut, figure_name, form, least, number_and_place, one};

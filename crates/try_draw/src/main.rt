@@ -1,5 +1,7 @@
 // Tries drawing: the dots of document 01's figures, letters, blocks and external text, all letters under each text look, each refusal, and whole frames by their sums.
 // Prints a line for each.
+#![tactic(auto)]
+
 ghost use Rattle.std.specs.Prelude.{◌<◌};
 
 use settings::Look;

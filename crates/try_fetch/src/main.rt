@@ -1,6 +1,8 @@
 // Tries fetching: the addresses of document 01's figures, each refusal, buffers of all lengths, and whole strips by their sums; then rule 2, the banks of an image,
 // and how many image bytes are touched.
 // Prints a line for each.
+#![tactic(auto)]
+
 ghost use Rattle.std.specs.Prelude.{◌<◌};
 
 use counter::Counter;

@@ -1,4 +1,6 @@
 // Tries keys in a record's sheet and a cover: which of the two has each, and the value given. Prints a line for each.
+#![tactic(auto)]
+
 ghost use Rattle.std.specs.Prelude.{◌<◌};
 
 use trial::{answered, quoted, say};

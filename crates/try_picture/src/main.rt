@@ -1,4 +1,6 @@
 // Tries pictures made and read again: each refusal, and what is no picture. Prints a line for each call.
+#![tactic(auto)]
+
 use answer::Answer;
 use trial::{answered, cut, form, lay, least, mark, one, say, sum, unchanged_from};
 

@@ -1,4 +1,6 @@
 // Tries reports: document 01's example, sheets of each other status, and sheets broken in each kind of line; then reports after an operation on the record. Prints each with its report.
+#![tactic(auto)]
+
 use answer::{Answer, Spot, Unfit};
 use trial::{cut, number_and_place, quoted, say};
 

@@ -1,4 +1,6 @@
 // Tries sheets: each corner of document 01's sheet, refused with its place or accepted with its fields. Prints a line for each.
+#![tactic(auto)]
+
 use settings::Rule;
 use trial::{cut, form, least, number_and_place, quoted, say};
 

@@ -1,5 +1,7 @@
 // Tries both at once: each refusal, buffers of all lengths, banks that are not fitted, bytes that are not valid, and pairs of modes, under rule 2 too, by the sums of strip and frame.
 // Prints a line for each call.
+#![tactic(auto)]
+
 ghost use Rattle.std.specs.Prelude.{◌<◌};
 
 use answer::Answer;

@@ -1,4 +1,6 @@
 // Tries the check of bytes that external text does not show: strips of letters with another byte at two places, whole and cut short. Prints a line for each.
+#![tactic(auto)]
+
 ghost use Rattle.std.specs.Prelude.{◌<◌};
 
 use answer::{Answer, Unfit};

@@ -4,9 +4,10 @@ use base.Logic.{emp, id⊢}
 use Rattle.promises.specs.Fixes.{Operation, Fixes, whole, one_tells}
 use Rattle.answer.proofs.Answers.{one_answer}
 use Rattle.valid.proofs.not_valid as not_valid
+use Rattle.valid.specs.contracts.not_valid as not_valid_contract
 
 abbrev pub not_valid_op : Operation
-not_valid_op = record { key = not_valid.Key.name; T = not_valid.ended; clauses = λ M. not_valid.clauses; Says = not_valid.Reads.Learnt; O = _; seen = λ κs. whole }
+not_valid_op = record { key = not_valid.Symbol.name; T = not_valid_contract.ended; clauses = λ M 𝓤 𝓛. not_valid_contract.clauses 𝓛; Says = not_valid.Reads.Learnt; O = _; seen = λ κs. whole }
 
 pub not_valid_fixes : Fixes not_valid_op
 not_valid_fixes = record {

@@ -1,4 +1,6 @@
 // Bytes that external text does not show: the first of them is refused with 15.
+#![tactic(auto)]
+
 ghost use Rattle.std.specs.Prelude.{◌≡◌, false, ℕ, ◌<◌, ◌≤◌, min, leb, length, get_or};
 ghost use Rattle.promises.specs.First.{first_where};
 ghost use Rattle.promises.specs.Order.{after};

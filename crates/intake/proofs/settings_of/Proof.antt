@@ -39,27 +39,27 @@ play-of c = c.before.before
 counted : (c : tie.After-read-fields) → (fields c).annotations ≡ length (fields_in (bytes c)).annotations
 counted c = c.read-fields.ensures.annotations
 
-listed : (c : tie.After-read-fields) → take (fields c).write_count (fields c).writes-1 ≡ (fields_in (bytes c)).writes-1
-listed c = writes_are (fields_in (bytes c)).writes-1 (fields c).writes-1 (fields c).write_count c.read-fields.ensures.writes c.read-fields.ensures.count
+listed : (c : tie.After-read-fields) → take (fields c).write_count (fields c).writes ≡ (fields_in (bytes c)).writes
+listed c = writes_are (fields_in (bytes c)).writes (fields c).writes (fields c).write_count c.read-fields.ensures.writes c.read-fields.ensures.count
 
 -- past the first test the sheet is accepted, and its writes are played
 accepted-at : (c : tie.Else-number-ne0) → (told_in (bytes (read_of c))).number ≡ 0
 accepted-at c = ap (λ (t : Told). t.number) (sym (read_of c).read-fields.ensures.told) ∙ sym c.before.number.ensures ∙ c.if-number-ne0.false
 
-played-all : (c : tie.After-play-played) → told_of c.play-played.result ≡ play_told 0 (fields_in (bytes (read_of (whole_of c)))).writes-1
+played-all : (c : tie.After-play-played) → told_of c.play-played.result ≡ play_told 0 (fields_in (bytes (read_of (whole_of c)))).writes
 played-all c = c.play-played.ensures ∙ ap (play_told 0) (listed (read_of (whole_of c)))
 
 -- past the second none of them is elsewhere
-none_elsewhere : (c : tie.Else-number-ne0-2) → (play_told 0 (fields_in (bytes (read_of (whole_of (play-of c))))).writes-1).number ≡ 0
+none_elsewhere : (c : tie.Else-number-ne0-2) → (play_told 0 (fields_in (bytes (read_of (whole_of (play-of c))))).writes).number ≡ 0
 none_elsewhere c = ap (λ (t : Told). t.number) (sym (played-all (play-of c))) ∙ sym c.before.number-2.ensures ∙ c.if-number-ne0-2.false
 
 -- the word that they leave, and the settings
 abbrev sheet-of : tie.After-value → tie.After-read-fields
 sheet-of c = read_of (whole_of (play-of c.before))
 
-word-is : (c : tie.After-value) → (c.value.result ≡ played 0 (fields_in (bytes (sheet-of c))).writes-1) × (c.value.result < 2 ^ 16)
+word-is : (c : tie.After-value) → (c.value.result ≡ played 0 (fields_in (bytes (sheet-of c))).writes) × (c.value.result < 2 ^ 16)
 word-is c =
-    let d = played_done 0 (fields_in (bytes (sheet-of c))).writes-1 (omega arith) (none_elsewhere c.before) in
+    let d = played_done 0 (fields_in (bytes (sheet-of c))).writes (omega arith) (none_elsewhere c.before) in
     let e = c.value.ensures ∙ ap (λ (t : Told). t.value) (played-all (play-of c.before) ∙ d.0) in
     (e, rw e d.1)
 
@@ -92,7 +92,7 @@ returns-then-number-ne0 c =
 slice_bounds-writes-end : tie.Need-slice_bounds-writes-end
 slice_bounds-writes-end c =
     let r = read_of c.before in
-    writes_within (fields_in (bytes r)).writes-1 (fields r).writes-1 (fields r).write_count r.read-fields.ensures.writes r.read-fields.ensures.count
+    writes_within (fields_in (bytes r)).writes (fields r).writes (fields r).write_count r.read-fields.ensures.writes r.read-fields.ensures.count
 
 slice_bounds-play-end : tie.Need-slice_bounds-play-end
 slice_bounds-play-end c =

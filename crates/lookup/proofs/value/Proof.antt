@@ -42,8 +42,8 @@ returns-then-found c =
     let p = c.before.before in
     let r = p.before.find-found in
     let a = (start_of p).args in
-    let z : r.result-1.piece.from + r.result-1.piece.size - r.result-1.piece.from ≡ r.result-1.piece.size = omega arith in
-    promised a.«record» a.cover a.key.now r.result-1.piece r.ensures.1 true c.before.if-found.true (r.result-1.piece.from + r.result-1.piece.size - r.result-1.piece.from) _ z (record { bytes = refl; block = refl; offset = refl })
+    let z : r.result.piece.from + r.result.piece.size - r.result.piece.from ≡ r.result.piece.size = omega arith in
+    promised a.«record» a.cover a.key.now r.result.piece r.ensures.1 true c.before.if-found.true (r.result.piece.from + r.result.piece.size - r.result.piece.from) _ z (record { bytes = refl; block = refl; offset = refl })
 
 slice_bounds-result-count-2 : tie.Need-slice_bounds-result-count-2
 slice_bounds-result-count-2 c = omega arith
@@ -59,8 +59,8 @@ returns-2 c =
     let p = c.before.before in
     let r = p.before.find-found in
     let a = (start_of p).args in
-    let z : r.result-1.piece.from + r.result-1.piece.size - r.result-1.piece.from ≡ r.result-1.piece.size = omega arith in
-    promised a.«record» a.cover a.key.now r.result-1.piece r.ensures.1 false c.before.if-found.false (r.result-1.piece.from + r.result-1.piece.size - r.result-1.piece.from) _ z (record { bytes = refl; block = refl; offset = refl })
+    let z : r.result.piece.from + r.result.piece.size - r.result.piece.from ≡ r.result.piece.size = omega arith in
+    promised a.«record» a.cover a.key.now r.result.piece r.ensures.1 false c.before.if-found.false (r.result.piece.from + r.result.piece.size - r.result.piece.from) _ z (record { bytes = refl; block = refl; offset = refl })
 
 pub value_spec : {M : Type 1} → statement M
 value_spec =

@@ -38,12 +38,12 @@ abbrev status-of : tie.After-number_line-placed → tie.After-number_line-status
 status-of c = c.before.before.before.before
 
 -- the number that is tested is the one told
-number_is : (c : tie.After-number_line-status) → c.before.before.before.number-number.result ≡ (said c).number-number
+number_is : (c : tie.After-number_line-status) → c.before.before.before.number-number.result ≡ (said c).number
 number_is c = c.before.before.before.number-number.ensures
 
 -- the text after the status, and after the place
 status : (c : tie.After-number_line-status) → c.number_line-status.result ≡ text_of (status_line (said c))
-status c = then_line [] (status_word ++ eq) (decimal (said c).number-number) c.before.before.blank.ensures c.number_line-status.ensures.0 (ap decimal (number_is c))
+status c = then_line [] (status_word ++ eq) (decimal (said c).number) c.before.before.blank.ensures c.number_line-status.ensures.0 (ap decimal (number_is c))
 
 status_long : (c : tie.After-number_line-status) → c.number_line-status.result.len ≤ 28
 status_long c = omega (arith, c.number_line-status.ensures.1.1, text_long [] c.before.before.blank.ensures)
@@ -110,7 +110,7 @@ annotated-requires c κs =
 success : (c : tie.After-annotated) → c.annotated.result ≡ text_of (text_for (said (start_of c.before.before.before)) (bytes (start_of c.before.before.before)))
 success c =
     let p = start_of c.before.before.before in
-    let z : (said p).number-number ≡ 0 = sym (number_is p) ∙ c.before.before.before.before.before.if-number-eq0.true in
+    let z : (said p).number ≡ 0 = sym (number_is p) ∙ c.before.before.before.before.before.if-number-eq0.true in
     let l = grows _ (setting_lines (settings_in (bytes p))) (named c.before.before) (c.before.setting_lines.ensures.0 ∙ ap (λ (t : Settings). text_of (held c.before.before.line-named.result ++ setting_lines t)) ((begin-of p).requires.1 z)) in
     grows _ (annotated (bytes p)) l c.annotated.ensures ∙ ap text_of (rw (report_done (said p) (bytes p) z) (simp append_assoc))
 
@@ -124,7 +124,7 @@ number_line-placed-requires : tie.Need-number_line-placed-requires
 number_line-placed-requires c κs = (c.before.before.before.number_line-status.ensures.1.0, omega (arith, status_long c.before.before.before))
 
 -- past the first test the number is not 0
-refused_at : (c : tie.After-number_line-placed) → (said (status-of c)).number-number ≡ 0 → ⊥
+refused_at : (c : tie.After-number_line-placed) → (said (status-of c)).number ≡ 0 → ⊥
 refused_at c e = c.before.before.before.if-number-eq0.false (number_is (status-of c) ∙ e)
 
 broken : (c : tie.Then-number-eq11) → c.before.number_line-placed.result ≡ text_of (text_for (said (status-of c.before)) (bytes (status-of c.before)))

@@ -19,8 +19,8 @@ use Rattle.screen.proofs.render.Tie as tie
 abbrev room : List ℕ
 room = replicate 6144 0
 
-long : (s : Settings) → strip_length s.look-1 ≤ length room
-long s = omega (arith, width_le s.look-1, length-replicate {A = ℕ} 6144 0)
+long : (s : Settings) → strip_length s.look ≤ length room
+long s = omega (arith, width_le s.look, length-replicate {A = ℕ} 6144 0)
 
 -- where the bytes were fetched, and where the function starts, from the place after they are drawn
 abbrev fetch-of : tie.After-draw-answer → tie.After-fetch
@@ -55,7 +55,7 @@ returns-then-number-ne0 c =
     let d = c.before.before.before.before in
     let i = start_of d in
     let a = i.args in
-    shown_kept a.settings a.image.now a.font.now a.strip-1.now a.frame-1.now i.requires room (long a.settings) (fetch-of d).fetch.ensures.1.1 d.draw-answer.ensures.0 d.draw-answer.ensures.1
+    shown_kept a.settings a.image.now a.font.now a.strip.now a.frame.now i.requires room (long a.settings) (fetch-of d).fetch.ensures.1.1 d.draw-answer.ensures.0 d.draw-answer.ensures.1
     (λ z. c.if-number-ne0.true (c.before.number.ensures ∙ z))
 
 slice_bounds-store-end : tie.Need-slice_bounds-store-end
@@ -80,8 +80,8 @@ returns-2 c =
     let i = start_of d in
     let a = i.args in
     let f = (fetch-of d).fetch.ensures.1.1 in
-    let kept = stored (fetched_byte a.settings a.image.now) (strip_length a.settings.look) (fetch-of d).fetch.new.1.1.0 a.strip-1.now c.before.before.before.before.strip_length.ensures (omega (arith, ap (λ (x : List ℕ). length x) f, fetched-long d)) (strip_long a.settings a.image.now a.font.now a.strip-1.now a.frame-1.now i.requires) (λ k h. ap (λ (x : List ℕ). get_or x k 0) f ∙ fetched_byte_lem a.settings a.image.now a.font.now a.strip-1.now a.frame-1.now i.requires room (long a.settings) k h) c.before.before.store.ensures in
-    shown_stored a.settings a.image.now a.font.now a.strip-1.now a.frame-1.now i.requires room (long a.settings) f d.draw-answer.ensures.0 d.draw-answer.ensures.1
+    let kept = stored (fetched_byte a.settings a.image.now) (strip_length a.settings.look) (fetch-of d).fetch.new.1.1.0 a.strip.now c.before.before.before.before.strip_length.ensures (omega (arith, ap (λ (x : List ℕ). length x) f, fetched-long d)) (strip_long a.settings a.image.now a.font.now a.strip.now a.frame.now i.requires) (λ k h. ap (λ (x : List ℕ). get_or x k 0) f ∙ fetched_byte_lem a.settings a.image.now a.font.now a.strip.now a.frame.now i.requires room (long a.settings) k h) c.before.before.store.ensures in
+    shown_stored a.settings a.image.now a.font.now a.strip.now a.frame.now i.requires room (long a.settings) f d.draw-answer.ensures.0 d.draw-answer.ensures.1
     (sym e.before.number.ensures ∙ e.if-number-ne0.false) kept
 
 pub render_spec : {M : Type 1} → statement M

@@ -22,7 +22,7 @@ number-requires c κs = search rules
 returns-then-number-ne0 : tie.Need-returns-then-number-ne0
 returns-then-number-ne0 c =
     let a = (start_of c.before).args in
-    length_refused a.settings a.image.now a.font.now a.strip-1.now a.frame-1.now c.before.before.length_answer-answer.ensures (λ z. c.if-number-ne0.true (c.before.number.ensures ∙ z))
+    length_refused a.settings a.image.now a.font.now a.strip.now a.frame.now c.before.before.length_answer-answer.ensures (λ z. c.if-number-ne0.true (c.before.number.ensures ∙ z))
 
 render-requires : tie.Need-render-requires
 render-requires c κs = rw c.before.before.before.before.length_answer-answer.ensures at (passed c.before.before)

@@ -16,15 +16,15 @@ memory-requires : tie.Need-memory-requires
 memory-requires c κs = search rules
 
 returns-in-0 : tie.Need-returns-in-0
-returns-in-0 c = rw (sym (matched c.before) ∙ c.in_default.keys1)
+returns-in-0 c = rw (sym (matched c.before) ∙ c.in-0.is)
 
 returns-in-1 : tie.Need-returns-in-1
-returns-in-1 c = rw (sym (matched c.before) ∙ c.in_default.keys2)
+returns-in-1 c = rw (sym (matched c.before) ∙ c.in-1.is)
 
 returns-in_default : tie.Need-returns-in_default
 returns-in_default c =
     let e = matched c.before in
-    (other_rows (memory c.before.before.args.settings) (mod-lt _ (lit< tt)) (λ z. c.in_default.rest.0.1 (e ∙ z)) (λ z. c.in_default.rest.1 (e ∙ z))).1
+    (other_rows (memory c.before.before.args.settings) (mod-lt _ (lit< tt)) (λ z. c.in_default.in_default-own.rest.0.1 (e ∙ z)) (λ z. c.in_default.in_default-own.rest.1 (e ∙ z))).1
 
 pub full_size_spec : {M : Type 1} → statement M
 full_size_spec = tie.close (tie.spec memory-requires returns-in-0 returns-in-1 returns-in_default)

@@ -7,12 +7,12 @@ use Rattle.settings.proofs.image_fits.Tie as tie
 
 returns-in-4096 : tie.Need-returns-in-4096
 unfolding image_fits
-returns-in-4096 c = ⊎_elim (λ e. rw e) (⊎_elim (λ e. rw e) (⊎_elim (λ e. rw e) (⊎_elim (λ e. rw e) (λ e. rw e)))) c.in_default.keys1
+returns-in-4096 c = ⊎_elim (λ e. rw e) (⊎_elim (λ e. rw e) (⊎_elim (λ e. rw e) (⊎_elim (λ e. rw e) (λ e. rw e)))) c.in-4096.is
 
 returns-in_default : tie.Need-returns-in_default
 unfolding image_fits
 returns-in_default c =
-    let h = c.in_default.rest.1 in
+    let h = c.in_default.in_default-own.rest.1 in
     simp (
       ne_eqb c.before.args.length 4096 (λ e. h (inl e)),
       ne_eqb c.before.args.length 8192 (λ e. h (inr (inl e))),

@@ -33,8 +33,8 @@ returns : tie.Need-returns
 returns c =
     let a = c.before.before.before.before.args in
     let r = c.before.before.annotation-found in
-    let n : length (line_at (fields_in a.sheet.now).annotations a.n) ≡ r.result-1.from + r.result-1.size - r.result-1.from = omega (arith, r.ensures.1) in
-    part_move r.result-1.from (r.result-1.from + r.result-1.size - r.result-1.from) (annotation_from a.sheet.now a.n) (length (line_at (fields_in a.sheet.now).annotations a.n)) (sym r.ensures.0) n (record { bytes = refl; block = refl; offset = refl })
+    let n : length (line_at (fields_in a.sheet.now).annotations a.n) ≡ r.result.from + r.result.size - r.result.from = omega (arith, r.ensures.1) in
+    part_move r.result.from (r.result.from + r.result.size - r.result.from) (annotation_from a.sheet.now a.n) (length (line_at (fields_in a.sheet.now).annotations a.n)) (sym r.ensures.0) n (record { bytes = refl; block = refl; offset = refl })
 
 pub annotation_spec : {M : Type 1} → statement M
 annotation_spec = tie.close (tie.spec annotation-found-requires overflow_add-end slice_bounds-result-count slice_bounds-result-start slice_bounds-result-end returns)

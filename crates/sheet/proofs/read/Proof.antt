@@ -21,7 +21,7 @@ returns-then-found c =
       told = g.told_done;
       pins = g.pins;
       rule = g.rule;
-      writes = g.writes-1;
+      writes = g.writes;
       count = g.count;
       annotations = count_given (read_sheet s) r.result r.ensures;
     }
@@ -35,8 +35,8 @@ returns-2 c =
       told = g.told_broken;
       pins = ap (λ (f : Fields). f.pins) g.no_fields;
       rule = ap (λ (f : Fields). rule_given f.rule) g.no_fields;
-      writes = ap (λ (f : Fields). padded 64 f.writes-1) g.no_fields;
-      count = ap (λ (f : Fields). length f.writes-1) g.no_fields;
+      writes = ap (λ (f : Fields). padded 64 f.writes) g.no_fields;
+      count = ap (λ (f : Fields). length f.writes) g.no_fields;
       annotations = ap (λ (f : Fields). length f.annotations) g.no_fields;
     }
 

@@ -4,17 +4,17 @@ use Rattle.transpose.proofs.fits.Statement.{statement}
 use Rattle.transpose.proofs.fits.Tie as tie
 
 returns-in-6 : tie.Need-returns-in-6
-returns-in-6 c = rw c.in_default.keys1
+returns-in-6 c = rw c.in-6.is
 
 returns-in-7 : tie.Need-returns-in-7
-returns-in-7 c = rw c.in_default.keys2
+returns-in-7 c = rw c.in-7.is
 
 returns-in-8 : tie.Need-returns-in-8
-returns-in-8 c = rw c.in_default.keys3
+returns-in-8 c = rw c.in-8.is
 
 returns-in_default : tie.Need-returns-in_default
 returns-in_default c =
-    let h = c.in_default.rest in
+    let h = c.in_default.in_default-own.rest in
     simp (ne_eqb c.before.args.k 6 h.0.0.1, ne_eqb c.before.args.k 7 h.0.1, ne_eqb c.before.args.k 8 h.1)
 
 pub fits_spec : {M : Type 1} → statement M

@@ -17,11 +17,11 @@ use Rattle.transpose.proofs.transposed.Tie as tie
 abbrev start_of : tie.After-number → tie.Start
 start_of c = c.before.before.before.before
 
-passed : (c : tie.Else-number-ne0) → let a = (start_of c.before).args in (chip_told a.k (length a.lent.now) (length a.room-1.now)).number ≡ 0
+passed : (c : tie.Else-number-ne0) → let a = (start_of c.before).args in (chip_told a.k (length a.lent.now) (length a.room.now)).number ≡ 0
 passed c = rw c.before.before.chip_answer-answer.ensures at (sym c.before.number.ensures ∙ c.if-number-ne0.false)
 
-suits : (c : tie.Else-number-ne0) → let a = (start_of c.before).args in (chip_fits a.k (length a.lent.now) ≡ true) × (length a.lent.now ≤ length a.room-1.now)
-suits c = let a = (start_of c.before).args in accepted a.k (length a.lent.now) (length a.room-1.now) (passed c)
+suits : (c : tie.Else-number-ne0) → let a = (start_of c.before).args in (chip_fits a.k (length a.lent.now) ≡ true) × (length a.lent.now ≤ length a.room.now)
+suits c = let a = (start_of c.before).args in accepted a.k (length a.lent.now) (length a.room.now) (passed c)
 
 chip_answer-answer-requires : tie.Need-chip_answer-answer-requires
 chip_answer-answer-requires c κs = search rules
@@ -33,7 +33,7 @@ returns-then-number-ne0 : tie.Need-returns-then-number-ne0
 returns-then-number-ne0 c =
     let a = (start_of c.before).args in
     let e = c.before.before.chip_answer-answer.ensures in
-    (e, sym (room_refused a.k a.lent.now a.room-1.now (λ z. c.if-number-ne0.true (c.before.number.ensures ∙ (rw e z)))))
+    (e, sym (room_refused a.k a.lent.now a.room.now (λ z. c.if-number-ne0.true (c.before.number.ensures ∙ (rw e z)))))
 
 overflow_shl-side : tie.Need-overflow_shl-side
 overflow_shl-side c = let a = (start_of c.before).args in omega (arith, (shape a.k (length a.lent.now) (suits c).0).0)
@@ -43,7 +43,7 @@ banks-requires c κs =
     let a = (start_of c.before.before).args in
     let n = length a.lent.now in
     let s = suits c.before in
-    whole_banks a.k n (length a.room-1.now) (1 * 2 ^ a.k % 18446744073709551616) s.0 s.1 (side_is a.k n s.0)
+    whole_banks a.k n (length a.room.now) (1 * 2 ^ a.k % 18446744073709551616) s.0 s.1 (side_is a.k n s.0)
 
 shape_of-room : tie.Need-shape_of-room
 shape_of-room c = search rules
@@ -54,8 +54,8 @@ returns-2 c =
     let a = (start_of b.before).args in
     let n = length a.lent.now in
     let side = side_is a.k n (suits b).0 in
-    let f = subst (λ (s : ℕ). Filled (transposed_byte s a.lent.now) 0 n a.room-1.now c.before.before.banks.new.1.1.0) side c.before.before.banks.ensures in
-    (b.before.before.chip_answer-answer.ensures, filled_written (suits b).1 f ∙ sym (room_done a.k a.lent.now a.room-1.now (passed b)))
+    let f = subst (λ (s : ℕ). Filled (transposed_byte s a.lent.now) 0 n a.room.now c.before.before.banks.new.1.1.0) side c.before.before.banks.ensures in
+    (b.before.before.chip_answer-answer.ensures, filled_written (suits b).1 f ∙ sym (room_done a.k a.lent.now a.room.now (passed b)))
 
 pub transposed_spec : {M : Type 1} → statement M
 transposed_spec =

@@ -13,8 +13,8 @@ use Rattle.scan.proofs.lines.in_class.Tie as tie
 of-class : {k k' : Class} (b : ℕ) → k' ≡ k → class_of k b ≡ class_of k' b
 of-class b e = ap (λ (x : Class). class_of x b) (sym e)
 
-enum_told : tie.Need-enum_told-1
-enum_told c = search rules
+enum_told-1 : tie.Need-enum_told-1
+enum_told-1 c = search rules
 
 within-requires : tie.Need-within-requires
 within-requires c κs = search rules
@@ -47,25 +47,25 @@ within-requires-in-RuleDigit : tie.Need-within-requires-in-RuleDigit
 within-requires-in-RuleDigit c κs = search rules
 
 returns-in-Deed : tie.Need-returns-in-Deed
-returns-in-Deed c = rw (c.before.within.ensures, c.within-in-Deed.ensures) (of-class c.before.before.before.before.args.b c.before.before.enum_told-1.given.1)
+returns-in-Deed c = rw (c.before.within.ensures, c.within-in-Deed.ensures) (of-class c.before.before.before.before.args.b c.before.before.in-Deed.is)
 
 returns-in-Hex : tie.Need-returns-in-Hex
-returns-in-Hex c = rw (c.before.within-in-Hex.ensures, c.within-in-Hex-2.ensures) (of-class c.before.before.before.before.args.b c.before.before.enum_told-in-Hex-1.given.1)
+returns-in-Hex c = rw (c.before.within-in-Hex.ensures, c.within-in-Hex-2.ensures) (of-class c.before.before.before.before.args.b c.before.before.in-Hex.is)
 
 returns-in-Key : tie.Need-returns-in-Key
-returns-in-Key c = rw c.within-in-Key.ensures (of-class c.before.before.before.args.b c.before.enum_told-in-Key-1.given.1)
+returns-in-Key c = rw c.within-in-Key.ensures (of-class c.before.before.before.args.b c.before.in-Key.is)
 
 returns-in-Value : tie.Need-returns-in-Value
-returns-in-Value c = sym (rw (le-leb c.before.before.args.b 255 (omega (arith, c.before.before.ranges.b)))) ∙ of-class c.before.before.args.b c.enum_told-in-Value-1.given.1
+returns-in-Value c = sym (rw (le-leb c.before.before.args.b 255 (omega (arith, c.before.before.ranges.b)))) ∙ of-class c.before.before.args.b c.in-Value.is
 
 returns-in-RuleDigit : tie.Need-returns-in-RuleDigit
-returns-in-RuleDigit c = rw c.within-in-RuleDigit.ensures (of-class c.before.before.before.args.b c.before.enum_told-in-RuleDigit-1.given.1)
+returns-in-RuleDigit c = rw c.within-in-RuleDigit.ensures (of-class c.before.before.before.args.b c.before.in-RuleDigit.is)
 
 pub in_class_spec : {M : Type 1} → statement M
 in_class_spec =
     tie.close
     (tie.spec
-    enum_told
+    enum_told-1
     within-requires
     within-requires-in-Deed
     enum_told-in-Hex
