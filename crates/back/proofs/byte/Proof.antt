@@ -18,14 +18,14 @@ abbrev decreases-loop : tie.decreases-loop-j
 decreases-loop values count dots frame at v₀ j₀ v j = count - j
 
 -- the number so far times the values is small, and the pixel that is read lies in the frame
-low : (c : tie.In-loop-j invariant-loop decreases-loop) → c.before.loop-j.v * c.before.before.before.args.values ≤ 1020
+low : (c : tie.In-loop-j invariant-loop decreases-loop) → c.loop-j.v * c.args.values ≤ 1020
 low c =
-    let s = c.before.before.before in
-    let l : c.before.loop-j.v ≤ 255 = omega (arith, c.before.loop-j.invariant.1, number_small s.requires.0 (λ (i : ℕ). get_or s.args.frame.now (s.args.at + i * s.args.dots) 0) c.before.loop-j.j c.before.loop-j.invariant.0) in
+    let s = c in
+    let l : c.loop-j.v ≤ 255 = omega (arith, c.loop-j.invariant.1, number_small s.requires.0 (λ (i : ℕ). get_or s.args.frame.now (s.args.at + i * s.args.dots) 0) c.loop-j.j c.loop-j.invariant.0) in
     omega (arith, mul-le-mul_right s.args.values l, values_le s.requires.0)
 
-place : (c : tie.In-loop-j invariant-loop decreases-loop) → c.before.loop-j.j * c.before.before.before.args.dots < c.before.before.before.args.count * c.before.before.before.args.dots
-place c = element_within c.before.before.before.requires.0 c.before.loop-j.j (omega arith)
+place : (c : tie.In-loop-j invariant-loop decreases-loop) → c.loop-j.j * c.args.dots < c.args.count * c.args.dots
+place c = element_within c.requires.0 c.loop-j.j (omega arith)
 
 loop-j-init : tie.Need-loop-j-init invariant-loop decreases-loop
 loop-j-init c = (zero-le, refl)
@@ -49,28 +49,28 @@ overflow_add-v : tie.Need-overflow_add-v invariant-loop decreases-loop
 overflow_add-v c = omega (arith, low c.before.before, c.value.ensures.1)
 
 overflow_add-j : tie.Need-overflow_add-j invariant-loop decreases-loop
-overflow_add-j c = omega (arith, count_le c.before.before.before.before.before.requires.0)
+overflow_add-j c = omega (arith, count_le c.requires.0)
 
 loop-j-smaller : tie.Need-loop-j-smaller invariant-loop decreases-loop
 loop-j-smaller c = omega arith
 
 loop-j-preserved : tie.Need-loop-j-preserved invariant-loop decreases-loop
 loop-j-preserved c =
-    let l = c.before.before.before in
-    let s = l.before.before in
+    let l = c in
+    let s = c in
     (omega arith, digit_more s.args.values l.loop-j.j (λ (i : ℕ). value s.args.values (get_or s.args.frame.now (s.args.at + i * s.args.dots) 0)) l.loop-j.invariant.1 c.value.ensures.0)
 
 overflow_cast-result : tie.Need-overflow_cast-result invariant-loop decreases-loop
 overflow_cast-result c =
-    let s = c.before.before.before in
-    omega (arith, c.before.loop-j.invariant.1, number_small s.requires.0 (λ (i : ℕ). get_or s.args.frame.now (s.args.at + i * s.args.dots) 0) c.before.loop-j.j c.before.loop-j.invariant.0)
+    let s = c in
+    omega (arith, c.loop-j.invariant.1, number_small s.requires.0 (λ (i : ℕ). get_or s.args.frame.now (s.args.at + i * s.args.dots) 0) c.loop-j.j c.loop-j.invariant.0)
 
 returns : tie.Need-returns invariant-loop decreases-loop
 unfolding read
 returns c =
-    let s = c.before.before.before in
-    let e : c.before.loop-j.j ≡ s.args.count = omega arith in
-    c.before.loop-j.invariant.1 ∙ ap (digits s.args.values (λ (i : ℕ). value s.args.values (get_or s.args.frame.now (s.args.at + i * s.args.dots) 0))) e
+    let s = c in
+    let e : c.loop-j.j ≡ s.args.count = omega arith in
+    c.loop-j.invariant.1 ∙ ap (digits s.args.values (λ (i : ℕ). value s.args.values (get_or s.args.frame.now (s.args.at + i * s.args.dots) 0))) e
 
 pub byte_spec : {M : Type 1} → statement M
 byte_spec =

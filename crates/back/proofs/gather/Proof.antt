@@ -18,10 +18,10 @@ start_of c = c.before.before.before.before
 
 -- the width, by the test
 is_32 : (c : tie.Then-width-eq32) → width (start_of c.before).args.look ≡ 32
-is_32 c = sym c.before.width.ensures ∙ c.if-width-eq32.true
+is_32 c = sym c.width.ensures ∙ c.if-width-eq32.true
 
 is-16 : (c : tie.Else-width-eq32) → width (start_of c.before).args.look ≡ 16
-is-16 c = ⊎_elim (λ e. e) (λ e. absurd (c.if-width-eq32.false (c.before.width.ensures ∙ e))) (width_cases (start_of c.before).args.look)
+is-16 c = ⊎_elim (λ e. e) (λ e. absurd (c.if-width-eq32.false (c.width.ensures ∙ e))) (width_cases (start_of c.before).args.look)
 
 gm-requires : tie.Need-gm-requires
 gm-requires c κs = search rules
@@ -46,44 +46,44 @@ shape_of-strip-then-bits c = search rules
 
 returns-then-bits : tie.Need-returns-then-bits
 returns-then-bits c =
-    let t = c.before.before.before.before.before in
-    let s = start_of t.before in
-    let w = is_32 t in
-    by (λ i _ _. as_bits s.args.look s.requires.0 1 (rw (t.before.before.gm.ensures, gm_low s.args.look) at c.before.before.before.before.if-bits.true) (ap (λ (m : ℕ). 256 / m) w) s.args.frame.now i)
-    (upto (ap (λ (m : ℕ). 192 * m) (sym w)) c.before.before.lines.ensures)
+    let t = c in
+    let s = start_of c.before.before.before.before.before.before in
+    let w = is_32 c.before.before.before.before.before in
+    by (λ i _ _. as_bits s.args.look s.requires.0 1 (rw (t.gm.ensures, gm_low s.args.look) at c.if-bits.true) (ap (λ (m : ℕ). 256 / m) w) s.args.frame.now i)
+    (upto (ap (λ (m : ℕ). 192 * m) (sym w)) c.lines.ensures)
 
 shape_of-strip-else-bits : tie.Need-shape_of-strip-else-bits
 shape_of-strip-else-bits c = search rules
 
 returns-else-bits : tie.Need-returns-else-bits
 returns-else-bits c =
-    let t = c.before.before.before.before.before in
-    let s = start_of t.before in
-    let w = is_32 t in
-    by (λ i _ _. as_pairs s.args.look s.requires.0 2 (rw (t.before.before.gm.ensures, gm_low s.args.look) at c.before.before.before.before.if-bits.false) (ap (λ (m : ℕ). 256 / m) w) s.args.frame.now i)
-    (upto (ap (λ (m : ℕ). 192 * m) (sym w)) c.before.before.lines-else-bits.ensures)
+    let t = c in
+    let s = start_of c.before.before.before.before.before.before in
+    let w = is_32 c.before.before.before.before.before in
+    by (λ i _ _. as_pairs s.args.look s.requires.0 2 (rw (t.gm.ensures, gm_low s.args.look) at c.if-bits.false) (ap (λ (m : ℕ). 256 / m) w) s.args.frame.now i)
+    (upto (ap (λ (m : ℕ). 192 * m) (sym w)) c.lines-else-bits.ensures)
 
 shape_of-strip-then-bits-2 : tie.Need-shape_of-strip-then-bits-2
 shape_of-strip-then-bits-2 c = search rules
 
 returns-then-bits-2 : tie.Need-returns-then-bits-2
 returns-then-bits-2 c =
-    let t = c.before.before.before.before.before in
-    let s = start_of t.before in
-    let w = is-16 t in
-    by (λ i _ _. as_bits s.args.look s.requires.0 2 (rw (t.before.before.gm.ensures, gm_low s.args.look) at c.before.before.before.before.if-bits-2.true) (ap (λ (m : ℕ). 256 / m) w) s.args.frame.now i)
-    (upto (ap (λ (m : ℕ). 192 * m) (sym w)) c.before.before.lines-then-bits-2.ensures)
+    let t = c in
+    let s = start_of c.before.before.before.before.before.before in
+    let w = is-16 c.before.before.before.before.before in
+    by (λ i _ _. as_bits s.args.look s.requires.0 2 (rw (t.gm.ensures, gm_low s.args.look) at c.if-bits-2.true) (ap (λ (m : ℕ). 256 / m) w) s.args.frame.now i)
+    (upto (ap (λ (m : ℕ). 192 * m) (sym w)) c.lines-then-bits-2.ensures)
 
 shape_of-strip-else-bits-2 : tie.Need-shape_of-strip-else-bits-2
 shape_of-strip-else-bits-2 c = search rules
 
 returns-else-bits-2 : tie.Need-returns-else-bits-2
 returns-else-bits-2 c =
-    let t = c.before.before.before.before.before in
-    let s = start_of t.before in
-    let w = is-16 t in
-    by (λ i _ _. as_pairs s.args.look s.requires.0 4 (rw (t.before.before.gm.ensures, gm_low s.args.look) at c.before.before.before.before.if-bits-2.false) (ap (λ (m : ℕ). 256 / m) w) s.args.frame.now i)
-    (upto (ap (λ (m : ℕ). 192 * m) (sym w)) c.before.before.lines-else-bits-2.ensures)
+    let t = c in
+    let s = start_of c.before.before.before.before.before.before in
+    let w = is-16 c.before.before.before.before.before in
+    by (λ i _ _. as_pairs s.args.look s.requires.0 4 (rw (t.gm.ensures, gm_low s.args.look) at c.if-bits-2.false) (ap (λ (m : ℕ). 256 / m) w) s.args.frame.now i)
+    (upto (ap (λ (m : ℕ). 192 * m) (sym w)) c.lines-else-bits-2.ensures)
 
 pub gather_spec : {M : Type 1} → statement M
 gather_spec =

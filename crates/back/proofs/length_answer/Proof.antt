@@ -26,7 +26,7 @@ short_frame-requires c κs = search rules
 
 returns : tie.Need-returns
 returns c =
-    let a = c.before.before.before.before.before.args in
+    let a = c.args in
     let e : told_of c.short_frame.result ≡ after_each (back_lengths a.look a.strip a.frame) (done (strip_length a.look)) = cc in
     e ∙ in_order (done (strip_length a.look)) refl (back_lengths a.look a.strip a.frame) tt
 

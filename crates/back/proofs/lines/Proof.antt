@@ -19,7 +19,7 @@ loop-n-init : tie.Need-loop-n-init invariant-loop decreases-loop
 loop-n-init c = (zero-le, upto (omega arith) (none _ _ _))
 
 line-requires : tie.Need-line-requires invariant-loop decreases-loop
-line-requires c κs = let s = c.before.before.before.before.before in (s.requires.0, omega arith, s.requires.1, omega (arith, s.requires.2, c.before.before.loop-n.invariant.1.long))
+line-requires c κs = let s = c in (s.requires.0, omega arith, s.requires.1, omega (arith, s.requires.2, c.loop-n.invariant.1.long))
 
 overflow_add-n : tie.Need-overflow_add-n invariant-loop decreases-loop
 overflow_add-n c = omega arith
@@ -28,16 +28,16 @@ loop-n-smaller : tie.Need-loop-n-smaller invariant-loop decreases-loop
 loop-n-smaller c = omega arith
 
 loop-n-preserved : tie.Need-loop-n-preserved invariant-loop decreases-loop
-loop-n-preserved c = let l = c.before.before.before.before.before in (omega arith, upto (next_line l.before.before.before.requires.0 l.loop-n.n) (join zero-le (omega arith) l.loop-n.invariant.1 c.before.before.line.ensures))
+loop-n-preserved c = let l = c in (omega arith, upto (next_line l.requires.0 l.loop-n.n) (join zero-le (omega arith) l.loop-n.invariant.1 c.line.ensures))
 
 shape_of-strip : tie.Need-shape_of-strip invariant-loop decreases-loop
-shape_of-strip c = c.before.loop-n.invariant.1.long
+shape_of-strip c = c.loop-n.invariant.1.long
 
 returns : tie.Need-returns invariant-loop decreases-loop
 returns c =
-    let s = c.before.before.before.before in
-    let e : c.before.loop-n.n ≡ 192 = omega arith in
-    upto (ap (λ (m : ℕ). m * (256 / (s.args.count * s.args.dots))) e) c.before.loop-n.invariant.1
+    let s = c in
+    let e : c.loop-n.n ≡ 192 = omega arith in
+    upto (ap (λ (m : ℕ). m * (256 / (s.args.count * s.args.dots))) e) c.loop-n.invariant.1
 
 pub lines_spec : {M : Type 1} → statement M
 lines_spec =

@@ -10,8 +10,8 @@ use Rattle.back.proofs.read_back.Tie as tie
 abbrev start_of : tie.After-number → tie.Start
 start_of c = c.before.before.before.before
 
-passed : (c : tie.Else-number-ne0) → (told_of c.before.before.length_answer-answer.result).number ≡ 0
-passed c = sym c.before.number.ensures ∙ c.if-number-ne0.false
+passed : (c : tie.Else-number-ne0) → (told_of c.length_answer-answer.result).number ≡ 0
+passed c = sym c.number.ensures ∙ c.if-number-ne0.false
 
 length_answer-answer-requires : tie.Need-length_answer-answer-requires
 length_answer-answer-requires c κs = search rules
@@ -22,10 +22,10 @@ number-requires c κs = search rules
 returns-then-number-ne0 : tie.Need-returns-then-number-ne0
 returns-then-number-ne0 c =
     let b = start_of c.before in
-    length_refused b.args.look b.args.frame.now b.args.strip.now c.before.before.length_answer-answer.ensures (λ z. c.if-number-ne0.true (c.before.number.ensures ∙ z))
+    length_refused b.args.look b.args.frame.now b.args.strip.now c.length_answer-answer.ensures (λ z. c.if-number-ne0.true (c.number.ensures ∙ z))
 
 take-requires : tie.Need-take-requires
-take-requires c κs = rw c.before.before.before.length_answer-answer.ensures at (passed c.before)
+take-requires c κs = rw c.length_answer-answer.ensures at (passed c.before)
 
 shape_of-strip : tie.Need-shape_of-strip
 shape_of-strip c = search rules

@@ -20,11 +20,11 @@ loop-k-init : tie.Need-loop-k-init invariant-loop decreases-loop
 loop-k-init c = (omega arith, below_none _)
 
 stray_at-requires : tie.Need-stray_at-requires invariant-loop decreases-loop
-stray_at-requires c κs = (c.before.before.before.requires.0, omega arith)
+stray_at-requires c κs = (c.requires.0, omega arith)
 
 returns-then-stray_at : tie.Need-returns-then-stray_at invariant-loop decreases-loop
 unfolding first_stray
-returns-then-stray_at c = sym (first_at _ _ _ c.before.before.before.loop-k.invariant.1 (sym c.before.stray_at.ensures ∙ c.if-stray_at.true) (omega arith))
+returns-then-stray_at c = sym (first_at _ _ _ c.loop-k.invariant.1 (sym c.stray_at.ensures ∙ c.if-stray_at.true) (omega arith))
 
 overflow_add-k : tie.Need-overflow_add-k invariant-loop decreases-loop
 overflow_add-k c = omega arith
@@ -33,13 +33,13 @@ loop-k-smaller : tie.Need-loop-k-smaller invariant-loop decreases-loop
 loop-k-smaller c = omega arith
 
 loop-k-preserved : tie.Need-loop-k-preserved invariant-loop decreases-loop
-loop-k-preserved c = (omega arith, below_more _ _ c.before.before.before.loop-k.invariant.1 (sym c.before.stray_at.ensures ∙ c.if-stray_at.false))
+loop-k-preserved c = (omega arith, below_more _ _ c.loop-k.invariant.1 (sym c.stray_at.ensures ∙ c.if-stray_at.false))
 
 returns-2 : tie.Need-returns invariant-loop decreases-loop
 unfolding first_stray
 returns-2 c =
-    let e : c.before.loop-k.k ≡ frame_length = omega arith in
-    e ∙ sym (first_none _ frame_length (λ j l. c.before.loop-k.invariant.1 j (omega arith)))
+    let e : c.loop-k.k ≡ frame_length = omega arith in
+    e ∙ sym (first_none _ frame_length (λ j l. c.loop-k.invariant.1 j (omega arith)))
 
 pub search_spec : {M : Type 1} → statement M
 search_spec =

@@ -17,11 +17,11 @@ overflow_mul-result c = search rules
 
 returns-then-gm-eq1 : tie.Need-returns-then-gm-eq1
 unfolding shows
-returns-then-gm-eq1 c = simp (eq-eqb _ _ (rw (c.before.gm.ensures, gm_low _) at c.if-gm-eq1.true), c.before.before.css-css.ensures)
+returns-then-gm-eq1 c = simp (eq-eqb _ _ (rw (c.gm.ensures, gm_low _) at c.if-gm-eq1.true), c.css-css.ensures)
 
 returns-2 : tie.Need-returns
 unfolding shows
-returns-2 c = simp (ne_eqb _ _ (rw (c.before.gm.ensures, gm_low _) at c.if-gm-eq1.false), c.before.before.css-css.ensures)
+returns-2 c = simp (ne_eqb _ _ (rw (c.gm.ensures, gm_low _) at c.if-gm-eq1.false), c.css-css.ensures)
 
 pub shows_spec : {M : Type 1} → statement M
 shows_spec = tie.close (tie.spec css-css-requires gm-requires overflow_mul-result returns-then-gm-eq1 returns-2)

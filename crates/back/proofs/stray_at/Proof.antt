@@ -14,7 +14,7 @@ dots-requires : tie.Need-dots-requires
 dots-requires c κs = search rules
 
 nonzero_rem-left : tie.Need-nonzero_rem-left
-nonzero_rem-left c = rw c.dots.ensures (dots_pos c.before.before.before.args.look c.before.before.before.requires.0)
+nonzero_rem-left c = rw c.dots.ensures (dots_pos c.args.look c.requires.0)
 
 overflow_sub-left : tie.Need-overflow_sub-left
 overflow_sub-left c = mod-le _ _
@@ -28,8 +28,8 @@ shows-requires c κs = search rules
 returns : tie.Need-returns
 unfolding stray
 returns c =
-    let s = c.before.before.before.before.before in
-    simp (c.shows.ensures, c.before.before.dots.ensures, (left_of s.args.look s.requires.0 s.args.k).0)
+    let s = c in
+    simp (c.shows.ensures, c.dots.ensures, (left_of s.args.look s.requires.0 s.args.k).0)
 
 pub stray_at_spec : {M : Type 1} → statement M
 stray_at_spec =

@@ -19,20 +19,20 @@ abbrev gather-of : tie.After-bytes-3-1 → tie.After-gather
 gather-of c = c.before.before
 
 abbrev start_of : tie.After-bytes-3-1 → tie.Start
-start_of c = (gather-of c).before.before.before.before
+start_of c = c.before.before.before.before.before.before
 
 fits : (s : tie.Start) → BackFits s.args.look (length s.args.strip.now) (length s.args.frame.now)
 fits s = lengths_fit s.args.look (length s.args.strip.now) (length s.args.frame.now) s.requires
 
 -- the bytes that are gathered are enough for a strip
-gathered-long : (c : tie.After-gather) → strip_length c.before.before.before.before.args.look ≤ length c.gather.new.1.1.0
-gathered-long c = omega (arith, c.gather.ensures.long, length-replicate {A = ℕ} 6144 0, width_le c.before.before.before.before.args.look)
+gathered-long : (c : tie.After-gather) → strip_length c.args.look ≤ length c.gather.new.1.1.0
+gathered-long c = omega (arith, c.gather.ensures.long, length-replicate {A = ℕ} 6144 0, width_le c.args.look)
 
 slice_bounds-gather-end : tie.Need-slice_bounds-gather-end
 slice_bounds-gather-end c = search rules
 
 gather-requires : tie.Need-gather-requires
-gather-requires c κs = let f = fits c.before.before.before in (f.in_graphics, f.frame_long, omega (arith, width_le c.before.before.before.args.look))
+gather-requires c κs = let f = fits c.before.before.before in (f.in_graphics, f.frame_long, omega (arith, width_le c.args.look))
 
 slice_bounds-first_stray-end : tie.Need-slice_bounds-first_stray-end
 slice_bounds-first_stray-end c = search rules
@@ -45,7 +45,7 @@ first_stray-k-requires c κs =
 returns-then-k-lt-FRAME_LENGTH : tie.Need-returns-then-k-lt-FRAME_LENGTH
 returns-then-k-lt-FRAME_LENGTH c =
     let s = start_of c.before.before in
-    let f = c.before.first_stray-k.ensures in
+    let f = c.first_stray-k.ensures in
     let k = told_stray s.args.look s.args.frame.now s.args.strip.now s.requires (rw f at c.if-k-lt-FRAME_LENGTH.true) in
     (ap (λ (p : ℕ). told 9 p 0) f ∙ k.0, k.1)
 
@@ -63,14 +63,14 @@ shape_of-strip c = search rules
 
 returns-2 : tie.Need-returns
 returns-2 c =
-    let d = c.before.before.before.before.before in
-    let g = d.before.before.before in
-    let s = start_of g in
+    let d = c in
+    let g = c in
+    let s = start_of c.before.before.before.before.before.before.before.before in
     let l = s.args.look in
     let n = d.strip_length-length.ensures in
-    let f = d.before.before.first_stray-k.ensures in
-    let kept = stored (read_byte l s.args.frame.now) (strip_length l) (gather-of g).gather.new.1.1.0 s.args.strip.now n (gathered-long (gather-of g)) (fits s).strip_long (λ k h. (gather-of g).gather.ensures.is k zero-le h) c.before.before.store.ensures in
-    let k = told_clean l s.args.frame.now s.args.strip.now s.requires (rw f at d.before.if-k-lt-FRAME_LENGTH.false) kept in
+    let f = d.first_stray-k.ensures in
+    let kept = stored (read_byte l s.args.frame.now) (strip_length l) (gather-of c.before.before.before.before.before.before.before.before).gather.new.1.1.0 s.args.strip.now n (gathered-long (gather-of c.before.before.before.before.before.before.before.before)) (fits s).strip_long (λ k h. (gather-of c.before.before.before.before.before.before.before.before).gather.ensures.is k zero-le h) c.store.ensures in
+    let k = told_clean l s.args.frame.now s.args.strip.now s.requires (rw f at d.if-k-lt-FRAME_LENGTH.false) kept in
     (ap done n ∙ k.0, k.1)
 
 pub take_spec : {M : Type 1} → statement M

@@ -22,13 +22,13 @@ lesser-n-requires : tie.Need-lesser-n-requires invariant-loop decreases-loop
 lesser-n-requires c κs = search rules
 
 loop-i-init : tie.Need-loop-i-init invariant-loop decreases-loop
-loop-i-init c = (zero-le, omega (arith, c.lesser-n.ensures, c.before.lesser.ensures), omega (arith, c.lesser-n.ensures, c.before.lesser.ensures), none _ _ _)
+loop-i-init c = (zero-le, omega (arith, c.lesser-n.ensures, c.lesser.ensures), omega (arith, c.lesser-n.ensures, c.lesser.ensures), none _ _ _)
 
 bounds-bytes-i : tie.Need-bounds-bytes-i invariant-loop decreases-loop
 bounds-bytes-i c = omega arith
 
 bounds-room-i : tie.Need-bounds-room-i invariant-loop decreases-loop
-bounds-room-i c = omega (arith, c.before.before.loop-i.invariant.3.long)
+bounds-room-i c = omega (arith, c.loop-i.invariant.3.long)
 
 overflow_add-i : tie.Need-overflow_add-i invariant-loop decreases-loop
 overflow_add-i c = omega arith
@@ -38,14 +38,14 @@ loop-i-smaller c = omega arith
 
 loop-i-preserved : tie.Need-loop-i-preserved invariant-loop decreases-loop
 loop-i-preserved c =
-    let v = c.before.before.loop-i.invariant in
+    let v = c.loop-i.invariant in
     (omega arith, v.1, v.2, more _ v.3 zero-le (omega (arith, v.3.long)) refl)
 
 shape_of-room : tie.Need-shape_of-room invariant-loop decreases-loop
-shape_of-room c = c.before.loop-i.invariant.3.long
+shape_of-room c = c.loop-i.invariant.3.long
 
 returns : tie.Need-returns invariant-loop decreases-loop
-returns c = filled_written (omega (arith, c.before.before.lesser-n.ensures, c.before.before.before.lesser.ensures)) (upto (omega (arith, c.before.before.lesser-n.ensures, c.before.before.before.lesser.ensures)) c.before.loop-i.invariant.3)
+returns c = filled_written (omega (arith, c.lesser-n.ensures, c.lesser.ensures)) (upto (omega (arith, c.lesser-n.ensures, c.lesser.ensures)) c.loop-i.invariant.3)
 
 pub store_spec : {M : Type 1} → statement M
 store_spec =

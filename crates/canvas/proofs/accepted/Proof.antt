@@ -8,10 +8,10 @@ number-requires : tie.Need-number-requires
 number-requires c κs = search rules
 
 returns-then-number-eq0 : tie.Need-returns-then-number-eq0
-returns-then-number-eq0 c = simp (eq-eqb _ 0 (rw c.before.number.ensures at c.if-number-eq0.true))
+returns-then-number-eq0 c = simp (eq-eqb _ 0 (rw c.number.ensures at c.if-number-eq0.true))
 
 returns-2 : tie.Need-returns
-returns-2 c = simp (ne_eqb _ 0 (rw c.before.number.ensures at c.if-number-eq0.false))
+returns-2 c = simp (ne_eqb _ 0 (rw c.number.ensures at c.if-number-eq0.false))
 
 pub accepted_spec : {M : Type 1} → statement M
 accepted_spec = tie.close (tie.spec number-requires returns-then-number-eq0 returns-2)

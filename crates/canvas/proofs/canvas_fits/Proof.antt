@@ -14,7 +14,7 @@ returns-then-height-gt65536 : tie.Need-returns-then-height-gt65536
 returns-then-height-gt65536 c = too_high _ _ _ c.if-height-gt65536.true
 
 overflow_mul-result : tie.Need-overflow_mul-result
-overflow_mul-result c = record { fits = omega (arith, mul-le-mul_right c.before.before.args.height c.before.if-width-gt65536.false, c.if-height-gt65536.false) }
+overflow_mul-result c = record { fits = omega (arith, mul-le-mul_right c.args.height c.if-width-gt65536.false, c.if-height-gt65536.false) }
 
 returns-3 : tie.Need-returns
 unfolding canvas_fits

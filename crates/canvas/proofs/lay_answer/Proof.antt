@@ -26,11 +26,11 @@ check-answer-requires-3 c κs = search rules
 returns : tie.Need-returns
 unfolding order_told
 returns c =
-    let many = c.before in
-    let sized = many.before in
-    let tested = sized.before in
-    let short = tested.before in
-    let a = short.before.args in
+    let many = c in
+    let sized = c in
+    let tested = c in
+    let short = c in
+    let a = short.args in
     let order = lay_order a.frame a.width a.height a.room a.count a.first in
     let e : told_of c.check-answer-3.result ≡ after_each order (done 0) =
     next _ c.check-answer-3.ensures (next _ many.check-answer-2.ensures (next _ (rw tested.canvas_fits.ensures at sized.check-answer.ensures) short.short_frame-answer.ensures)) in

@@ -21,13 +21,13 @@ abbrev start : tie.After-clip-v → tie.Start
 start c = c.before.before.before.before.before.before
 
 -- the struct tells that the corner fits its 16 bits, so that it is read back from them as it is
-measured : (c : tie.After-clip-v) → law.Measured (start c).args.frame.now (start c).args.p (start c).args.width (start c).args.height (start c).args.canvas.now c.before.before.clip-h.result c.clip-v.result
+measured : (c : tie.After-clip-v) → law.Measured (start c).args.frame.now (start c).args.p (start c).args.width (start c).args.height (start c).args.canvas.now c.clip-h.result c.clip-v.result
 measured c =
     let a = (start c).args in
-    let fits = c.before.before.before.struct_told-1.given in
+    let fits = c.struct_told-1.given in
     record {
       ready = (start c).requires;
-      h_is = c.before.before.clip-h.ensures ∙ ap (λ (z : ℤ). side_of z a.p.across a.width) (to_z-of_z w16 a.p.x (record { sfits = fits.1.1.1.1.0.1 }));
+      h_is = c.clip-h.ensures ∙ ap (λ (z : ℤ). side_of z a.p.across a.width) (to_z-of_z w16 a.p.x (record { sfits = fits.1.1.1.1.0.1 }));
       v_is = c.clip-v.ensures ∙ ap (λ (z : ℤ). side_of z a.p.down a.height) (to_z-of_z w16 a.p.y (record { sfits = fits.1.1.1.1.1.0.1 }));
     }
 
@@ -40,26 +40,26 @@ counted-requires c κs = law.none_counted (measured c.before.before.before)
 returns-then-on-eq0 : tie.Need-returns-then-on-eq0
 returns-then-on-eq0 c =
     let m = measured c.before.before.before.before in
-    (c.counted.ensures ∙ law.entry_none m c.before.if-on-eq0.true, law.pixels_none m c.before.if-on-eq0.true)
+    (c.counted.ensures ∙ law.entry_none m c.if-on-eq0.true, law.pixels_none m c.if-on-eq0.true)
 
 -- where something is kept: how near the rectangle's first kept pixel lies
 abbrev both : tie.Else-on-eq0 → tie.After-clip-v
 both c = c.before.before.before
 
 overflow_add-from : tie.Need-overflow_add-from
-overflow_add-from c = let e = c.before.before in record { fits = omega (arith, law.near (measured (both e)) e.if-on-eq0.false) }
+overflow_add-from c = let e = c in record { fits = omega (arith, law.near (measured (both c.before.before)) e.if-on-eq0.false) }
 
 overflow_mul-from : tie.Need-overflow_mul-from
-overflow_mul-from c = let e = c.before.before in record { fits = omega (arith, law.near (measured (both e)) e.if-on-eq0.false) }
+overflow_mul-from c = let e = c in record { fits = omega (arith, law.near (measured (both c.before.before)) e.if-on-eq0.false) }
 
 overflow_add-from-2 : tie.Need-overflow_add-from-2
-overflow_add-from-2 c = let e = c.before.before.before.before in record { fits = omega (arith, law.near (measured (both e)) e.if-on-eq0.false) }
+overflow_add-from-2 c = let e = c in record { fits = omega (arith, law.near (measured (both c.before.before.before.before)) e.if-on-eq0.false) }
 
 overflow_add-from-3 : tie.Need-overflow_add-from-3
-overflow_add-from-3 c = let e = c.before.before.before.before in record { fits = omega (arith, law.near (measured (both e)) e.if-on-eq0.false) }
+overflow_add-from-3 c = let e = c in record { fits = omega (arith, law.near (measured (both c.before.before.before.before)) e.if-on-eq0.false) }
 
 rows-requires : tie.Need-rows-requires
-rows-requires c κs = let e = c.before.before.before.before.before in law.asked (measured (both e)) e.if-on-eq0.false
+rows-requires c κs = let e = c in law.asked (measured (both c.before.before.before.before.before)) e.if-on-eq0.false
 
 -- and seen from where the rows are copied
 abbrev copied : tie.After-rows → tie.Else-on-eq0
@@ -73,8 +73,8 @@ shape_of-canvas c = search rules
 
 returns-2 : tie.Need-returns
 returns-2 c =
-    let r = c.before.before.before in
-    let m = measured (both (copied r)) in
+    let r = c in
+    let m = measured (both (copied c.before.before.before)) in
     (c.counted-2.ensures ∙ law.entry m, law.pixels m r.rows.ensures)
 
 pub lay_one_spec : {M : Type 1} → statement M

@@ -27,7 +27,7 @@ overflow_add-canvas-in-loop-i : tie.Need-overflow_add-canvas-in-loop-i invariant
 overflow_add-canvas-in-loop-i c = omega arith
 
 bounds-canvas-at : tie.Need-bounds-canvas-at invariant-loop decreases-loop
-bounds-canvas-at c = omega (arith, c.before.before.loop-i.invariant.1.long)
+bounds-canvas-at c = omega (arith, c.loop-i.invariant.1.long)
 
 overflow_add-i : tie.Need-overflow_add-i invariant-loop decreases-loop
 overflow_add-i c = omega arith
@@ -37,17 +37,17 @@ loop-i-smaller c = omega arith
 
 loop-i-preserved : tie.Need-loop-i-preserved invariant-loop decreases-loop
 loop-i-preserved c =
-    let a = c.before.before.before.args in (
+    let a = c.args in (
       omega arith,
-      step _ _ c.before.before.loop-i.invariant.1 (omega (arith, c.before.before.loop-i.invariant.1.long))
+      step _ _ c.loop-i.invariant.1 (omega (arith, c.loop-i.invariant.1.long))
           (ap (λ (j : ℕ). get_or a.frame.now (a.from + j) 0) (omega arith)),
     )
 
 shape_of-canvas : tie.Need-shape_of-canvas invariant-loop decreases-loop
-shape_of-canvas c = c.before.loop-i.invariant.1.long
+shape_of-canvas c = c.loop-i.invariant.1.long
 
 returns : tie.Need-returns invariant-loop decreases-loop
-returns c = upto (omega arith) c.before.loop-i.invariant.1
+returns c = upto (omega arith) c.loop-i.invariant.1
 
 pub row_spec : {M : Type 1} → statement M
 row_spec =

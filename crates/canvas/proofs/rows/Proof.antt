@@ -26,8 +26,8 @@ abbrev start : tie.At-loop-i invariant-loop decreases-loop → tie.Start invaria
 start c = c.before.before.before
 
 here : (c : tie.In-loop-i invariant-loop decreases-loop)
-    → ((start c.before).args.line + c.before.loop-i.i) * (start c.before).args.width + (start c.before).args.column + (start c.before).args.columns ≤ length (start c.before).args.canvas.now
-here c = let a = start c.before in ends a.args.line c.before.loop-i.i a.args.lines a.args.width a.args.column a.args.columns _ c.loop-i-test.true a.requires.0.3 a.requires.1.1
+    → ((start c.before).args.line + c.loop-i.i) * (start c.before).args.width + (start c.before).args.column + (start c.before).args.columns ≤ length (start c.before).args.canvas.now
+here c = let a = start c.before in ends a.args.line c.loop-i.i a.args.lines a.args.width a.args.column a.args.columns _ c.loop-i-test.true a.requires.0.3 a.requires.1.1
 
 loop-i-init : tie.Need-loop-i-init invariant-loop decreases-loop
 loop-i-init c = (omega arith, begun _ _ _ _ _ _ _)
@@ -48,7 +48,7 @@ overflow_add-line-in-loop-i : tie.Need-overflow_add-line-in-loop-i invariant-loo
 overflow_add-line-in-loop-i c = omega (arith, here c.before)
 
 row-requires : tie.Need-row-requires invariant-loop decreases-loop
-row-requires c κs = let t = c.before.before in (omega (arith, (start t).requires.1.0), omega (arith, here c.before, t.loop-i.invariant.1.long))
+row-requires c κs = let t = c in (omega (arith, (start c.before.before).requires.1.0), omega (arith, here c.before, t.loop-i.invariant.1.long))
 
 overflow_add-i : tie.Need-overflow_add-i invariant-loop decreases-loop
 overflow_add-i c = omega arith
@@ -58,16 +58,16 @@ loop-i-smaller c = omega arith
 
 loop-i-preserved : tie.Need-loop-i-preserved invariant-loop decreases-loop
 loop-i-preserved c =
-    let t = c.before.before.before.before.before in
-    (omega arith, row_more _ _ _ _ _ _ t.loop-i.i (omega arith) (start t).requires.0.3 t.loop-i.invariant.1 c.before.before.row.ensures)
+    let t = c in
+    (omega arith, row_more _ _ _ _ _ _ t.loop-i.i (omega arith) (start c.before.before.before.before.before).requires.0.3 t.loop-i.invariant.1 c.row.ensures)
 
 shape_of-canvas : tie.Need-shape_of-canvas invariant-loop decreases-loop
-shape_of-canvas c = c.before.loop-i.invariant.1.long
+shape_of-canvas c = c.loop-i.invariant.1.long
 
 returns : tie.Need-returns invariant-loop decreases-loop
 returns c =
-    let t = c.before in
-    let all : t.loop-i.i ≡ (start t).args.lines = omega arith in
+    let t = c in
+    let all : t.loop-i.i ≡ (start c.before).args.lines = omega arith in
     rw all at t.loop-i.invariant.1
 
 pub rows_spec : {M : Type 1} → statement M

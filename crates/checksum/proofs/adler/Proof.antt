@@ -16,9 +16,9 @@ abbrev decreases-loop : tie.decreases-loop-from
 decreases-loop bytes sums₀ from₀ sums from = length bytes - from
 
 -- both sums are below the modulus when the loop is done
-small : (c : tie.After-loop-from invariant-loop decreases-loop) → (c.before.loop-from.sums.low < 65521) × (c.before.loop-from.sums.high < 65521)
+small : (c : tie.After-loop-from invariant-loop decreases-loop) → (c.loop-from.sums.low < 65521) × (c.loop-from.sums.high < 65521)
 small c =
-    let s = sums_reduced (λ (k : ℕ). get_or c.before.before.before.args.bytes.now k 0) c.before.loop-from.from c.before.loop-from.invariant.1 in
+    let s = sums_reduced (λ (k : ℕ). get_or c.args.bytes.now k 0) c.loop-from.from c.loop-from.invariant.1 in
     (s.0, s.1)
 
 loop-from-init : tie.Need-loop-from-init invariant-loop decreases-loop
@@ -28,7 +28,7 @@ block_end-to-requires : tie.Need-block_end-to-requires invariant-loop decreases-
 block_end-to-requires c κs = omega arith
 
 adler_block-sums-requires : tie.Need-adler_block-sums-requires invariant-loop decreases-loop
-adler_block-sums-requires c κs = ((omega arith, omega arith, omega arith), c.before.before.loop-from.invariant.1)
+adler_block-sums-requires c κs = ((omega arith, omega arith, omega arith), c.loop-from.invariant.1)
 
 loop-from-smaller : tie.Need-loop-from-smaller invariant-loop decreases-loop
 loop-from-smaller c = omega arith
@@ -44,8 +44,8 @@ overflow_add-result c = omega (arith, small c.before.before)
 
 returns : tie.Need-returns invariant-loop decreases-loop
 returns c =
-    let l = c.before.before.before.loop-from in
-    let e : l.from ≡ length c.before.before.before.before.before.args.bytes.now = omega arith in
+    let l = c.loop-from in
+    let e : l.from ≡ length c.args.bytes.now = omega arith in
     adler_is _ _ _ _ (rw e at l.invariant.1)
 
 pub adler_spec : {M : Type 1} → statement M

@@ -21,8 +21,8 @@ abbrev decreases-loop : tie.decreases-loop-i
 decreases-loop bytes from to low₀ high₀ i₀ low high i = to - i
 
 -- the byte of this turn
-byte : (c : tie.After-shared_slice_known-1 invariant-loop decreases-loop) → get_or c.before.before.before.args.bytes.now c.before.before.loop-i.i 0 < 256
-byte c = omega (arith, c.shared_slice_known-1.given c.before.before.loop-i.i)
+byte : (c : tie.After-shared_slice_known-1 invariant-loop decreases-loop) → get_or c.args.bytes.now c.loop-i.i 0 < 256
+byte c = omega (arith, c.shared_slice_known-1.given c.loop-i.i)
 
 loop-i-init : tie.Need-loop-i-init invariant-loop decreases-loop
 loop-i-init c =
@@ -48,12 +48,12 @@ loop-i-smaller : tie.Need-loop-i-smaller invariant-loop decreases-loop
 loop-i-smaller c = omega arith
 
 loop-i-preserved : tie.Need-loop-i-preserved invariant-loop decreases-loop
-loop-i-preserved c = (omega arith, omega arith, omega (arith, byte c), omega (arith, byte c), sums_more _ _ _ _ c.before.before.loop-i.invariant.4)
+loop-i-preserved c = (omega arith, omega arith, omega (arith, byte c), omega (arith, byte c), sums_more _ _ _ _ c.loop-i.invariant.4)
 
 returns : tie.Need-returns invariant-loop decreases-loop
 returns c =
-    let e : c.before.loop-i.i ≡ c.before.before.args.to = omega arith in
-    rw e at c.before.loop-i.invariant.4
+    let e : c.loop-i.i ≡ c.args.to = omega arith in
+    rw e at c.loop-i.invariant.4
 
 pub adler_block_spec : {M : Type 1} → statement M
 adler_block_spec =

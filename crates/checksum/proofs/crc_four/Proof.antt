@@ -10,30 +10,30 @@ use Rattle.checksum.proofs.crc_four.Statement.{statement}
 use Rattle.checksum.proofs.crc_four.Tie as tie
 
 -- register and word are numbers of 32 bits, and so is their exclusive or
-small : (c : tie.After-word) → bit_xor c.before.before.args.c c.word.result < 4294967296
-small c = xor_lt 32 c.before.before.args.c c.word.result (omega arith) (omega arith)
+small : (c : tie.After-word) → bit_xor c.args.c c.word.result < 4294967296
+small c = xor_lt 32 c.args.c c.word.result (omega arith) (omega arith)
 
 word-requires : tie.Need-word-requires
 word-requires c κs = search rules
 
 entry-requires : tie.Need-entry-requires
-entry-requires c κs = (omega arith, stored_less (omega arith) c.before.before.requires.0.1)
+entry-requires c κs = (omega arith, stored_less (omega arith) c.requires.0.1)
 
 entry-requires-2 : tie.Need-entry-requires-2
-entry-requires-2 c κs = (omega arith, stored_less (omega arith) c.before.before.before.requires.0.1)
+entry-requires-2 c κs = (omega arith, stored_less (omega arith) c.requires.0.1)
 
 entry-requires-3 : tie.Need-entry-requires-3
-entry-requires-3 c κs = (omega arith, stored_less (omega arith) c.before.before.before.before.requires.0.1)
+entry-requires-3 c κs = (omega arith, stored_less (omega arith) c.requires.0.1)
 
 entry-requires-4 : tie.Need-entry-requires-4
 entry-requires-4 c κs = search rules
 
 returns : tie.Need-returns
 returns c =
-    let two = c.before.before in
-    let w = two.before.before in
-    four_by _ (small w) _ _ _ _ two.before.entry.ensures two.entry-2.ensures c.before.entry-3.ensures c.entry-4.ensures
-    ∙ ap (λ (r : ℕ). crc_bits 32 (bit_xor r w.word.result)) w.before.before.requires.1
+    let two = c in
+    let w = c in
+    four_by _ (small c.before.before.before.before) _ _ _ _ two.entry.ensures two.entry-2.ensures c.entry-3.ensures c.entry-4.ensures
+    ∙ ap (λ (r : ℕ). crc_bits 32 (bit_xor r w.word.result)) w.requires.1
     ∙ w.word.ensures
 
 pub crc_four_spec : {M : Type 1} → statement M

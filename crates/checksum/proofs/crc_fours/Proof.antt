@@ -21,7 +21,7 @@ loop-i-init : tie.Need-loop-i-init invariant-loop decreases-loop
 loop-i-init c = (omega arith, refl, sym (after_none _))
 
 crc_four-c-requires : tie.Need-crc_four-c-requires invariant-loop decreases-loop
-crc_four-c-requires c κs = ((omega arith, c.before.before.before.requires), c.before.loop-i.invariant.2)
+crc_four-c-requires c κs = ((omega arith, c.requires), c.loop-i.invariant.2)
 
 overflow_add-i : tie.Need-overflow_add-i invariant-loop decreases-loop
 overflow_add-i c = omega arith
@@ -33,7 +33,7 @@ loop-i-preserved : tie.Need-loop-i-preserved invariant-loop decreases-loop
 loop-i-preserved c = (omega arith, omega arith, c.crc_four-c.ensures)
 
 returns : tie.Need-returns invariant-loop decreases-loop
-returns c = c.before.loop-i.invariant.2 ∙ ap (crc_after _) (omega arith)
+returns c = c.loop-i.invariant.2 ∙ ap (crc_after _) (omega arith)
 
 pub crc_fours_spec : {M : Type 1} → statement M
 crc_fours_spec = tie.close (tie.spec invariant-loop decreases-loop overflow_mul-end loop-i-init crc_four-c-requires overflow_add-i loop-i-smaller loop-i-preserved returns)

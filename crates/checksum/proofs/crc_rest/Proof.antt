@@ -18,16 +18,16 @@ overflow_mul-i : tie.Need-overflow_mul-i invariant-loop decreases-loop
 overflow_mul-i c = omega arith
 
 loop-i-init : tie.Need-loop-i-init invariant-loop decreases-loop
-loop-i-init c = (omega arith, c.before.requires.1)
+loop-i-init c = (omega arith, c.requires.1)
 
 bounds-bytes-i : tie.Need-bounds-bytes-i invariant-loop decreases-loop
 bounds-bytes-i c = omega arith
 
 overflow_cast-x : tie.Need-overflow_cast-x invariant-loop decreases-loop
-overflow_cast-x c = omega (arith, c.shared_slice_known-in-loop-i-1.given c.before.before.loop-i.i)
+overflow_cast-x c = omega (arith, c.shared_slice_known-in-loop-i-1.given c.loop-i.i)
 
 entry-requires : tie.Need-entry-requires invariant-loop decreases-loop
-entry-requires c κs = (omega arith, stored_less (omega arith) c.before.before.before.before.requires.0)
+entry-requires c κs = (omega arith, stored_less (omega arith) c.requires.0)
 
 overflow_add-i : tie.Need-overflow_add-i invariant-loop decreases-loop
 overflow_add-i c = omega arith
@@ -36,10 +36,10 @@ loop-i-smaller : tie.Need-loop-i-smaller invariant-loop decreases-loop
 loop-i-smaller c = omega arith
 
 loop-i-preserved : tie.Need-loop-i-preserved invariant-loop decreases-loop
-loop-i-preserved c = (omega arith, after_one _ _ _ _ c.before.before.before.loop-i.invariant.1 c.entry.ensures)
+loop-i-preserved c = (omega arith, after_one _ _ _ _ c.loop-i.invariant.1 c.entry.ensures)
 
 returns : tie.Need-returns invariant-loop decreases-loop
-returns c = c.before.loop-i.invariant.1 ∙ ap (crc_after _) (omega arith)
+returns c = c.loop-i.invariant.1 ∙ ap (crc_after _) (omega arith)
 
 pub crc_rest_spec : {M : Type 1} → statement M
 crc_rest_spec =

@@ -28,12 +28,12 @@ loop-i-smaller : tie.Need-loop-i-smaller invariant-loop decreases-loop
 loop-i-smaller c = omega arith
 
 loop-i-preserved : tie.Need-loop-i-preserved invariant-loop decreases-loop
-loop-i-preserved c = (omega arith, c.before.before.loop-i.invariant.1 ∙ bits_turn _ _ _ (omega arith) ∙ ap (crc_bits _) (sym c.crc_bit-c.ensures))
+loop-i-preserved c = (omega arith, c.loop-i.invariant.1 ∙ bits_turn _ _ _ (omega arith) ∙ ap (crc_bits _) (sym c.crc_bit-c.ensures))
 
 returns : tie.Need-returns invariant-loop decreases-loop
 returns c =
-    let e : 8 - c.before.loop-i.i ≡ 0 = omega arith in
-    sym (c.before.loop-i.invariant.1 ∙ ap (λ (j : ℕ). crc_bits j c.before.loop-i.c) e ∙ bits_none _)
+    let e : 8 - c.loop-i.i ≡ 0 = omega arith in
+    sym (c.loop-i.invariant.1 ∙ ap (λ (j : ℕ). crc_bits j c.loop-i.c) e ∙ bits_none _)
 
 pub eight_bits_spec : {M : Type 1} → statement M
 eight_bits_spec = tie.close (tie.spec invariant-loop decreases-loop loop-i-init crc_bit-c-requires overflow_add-i loop-i-smaller loop-i-preserved returns)

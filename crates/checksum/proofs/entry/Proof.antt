@@ -17,7 +17,7 @@ bounds-table-from : tie.Need-bounds-table-from
 bounds-table-from c = search rules
 
 returns : tie.Need-returns
-returns c = c.before.requires.1.is _ (omega arith)
+returns c = c.requires.1.is _ (omega arith)
 
 pub entry_spec : {M : Type 1} → statement M
 entry_spec = tie.close (tie.spec overflow_cast-result overflow_add-result offset_bounds-table-from bounds-table-from returns)

@@ -36,10 +36,10 @@ loop-n-smaller : tie.Need-loop-n-smaller invariant-loop decreases-loop
 loop-n-smaller c = omega arith
 
 loop-n-preserved : tie.Need-loop-n-preserved invariant-loop decreases-loop
-loop-n-preserved c = (omega arith, stored_more _ (omega arith) (c.eight_bits.ensures ∙ first_entry _ (omega arith)) c.before.before.loop-n.invariant.1)
+loop-n-preserved c = (omega arith, stored_more _ (omega arith) (c.eight_bits.ensures ∙ first_entry _ (omega arith)) c.loop-n.invariant.1)
 
 returns : tie.Need-returns invariant-loop decreases-loop
-returns c = stored_less (omega arith) c.before.loop-n.invariant.1
+returns c = stored_less (omega arith) c.loop-n.invariant.1
 
 pub first_table_spec : {M : Type 1} → statement M
 first_table_spec =

@@ -25,7 +25,7 @@ bounds-table-n : tie.Need-bounds-table-n invariant-loop decreases-loop
 bounds-table-n c = omega arith
 
 entry-requires : tie.Need-entry-requires invariant-loop decreases-loop
-entry-requires c κs = let l = c.before.before.before.loop-n in (omega arith, stored_less l.invariant.0 l.invariant.2)
+entry-requires c κs = let l = c.loop-n in (omega arith, stored_less l.invariant.0 l.invariant.2)
 
 offset_bounds-table-n-in-loop-n : tie.Need-offset_bounds-table-n-in-loop-n invariant-loop decreases-loop
 offset_bounds-table-n-in-loop-n c = omega arith
@@ -41,11 +41,11 @@ loop-n-smaller c = omega arith
 
 loop-n-preserved : tie.Need-loop-n-preserved invariant-loop decreases-loop
 loop-n-preserved c =
-    let l = c.before.before.before.before.loop-n in
+    let l = c.loop-n in
     (omega arith, omega arith, stored_more _ (omega arith) (next_by _ _ _ l.invariant.0 (l.invariant.2.is _ (omega arith)) c.entry.ensures) l.invariant.2)
 
 returns : tie.Need-returns invariant-loop decreases-loop
-returns c = stored_less (omega arith) c.before.loop-n.invariant.2
+returns c = stored_less (omega arith) c.loop-n.invariant.2
 
 pub further_tables_spec : {M : Type 1} → statement M
 further_tables_spec =

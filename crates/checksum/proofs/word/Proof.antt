@@ -8,12 +8,12 @@ use Rattle.checksum.proofs.word.Statement.{statement}
 use Rattle.checksum.proofs.word.Tie as tie
 
 -- each byte is below 256, and so are the four
-byte : (c : tie.After-shared_slice_known-1) (k : ℕ) → get_or c.before.args.bytes.now k 0 < 256
+byte : (c : tie.After-shared_slice_known-1) (k : ℕ) → get_or c.args.bytes.now k 0 < 256
 byte c k = omega (arith, c.shared_slice_known-1.given k)
 
-four : (c : tie.After-shared_slice_known-1) → let a = c.before.args in let b = a.bytes.now in
+four : (c : tie.After-shared_slice_known-1) → let a = c.args in let b = a.bytes.now in
     (get_or b a.at 0 < 256) × (get_or b (a.at + 1) 0 < 256) × (get_or b (a.at + 2) 0 < 256) × (get_or b (a.at + 3) 0 < 256)
-four c = let a = c.before.args.at in (byte c a, byte c (a + 1), byte c (a + 2), byte c (a + 3))
+four c = let a = c.args.at in (byte c a, byte c (a + 1), byte c (a + 2), byte c (a + 3))
 
 bounds-bytes-at : tie.Need-bounds-bytes-at
 bounds-bytes-at c = search rules

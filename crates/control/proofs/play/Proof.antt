@@ -18,11 +18,11 @@ decreases-loop word writes now₀ i₀ now i = length writes - i
 
 -- the address of this turn's write
 abbrev address : tie.After-is_control invariant-loop decreases-loop → ℕ
-address c = get_or c.before.before.before.before.before.args.writes.now c.before.before.before.loop-i.i 0
+address c = get_or c.args.writes.now c.loop-i.i 0
 
 -- past the test it is one of the control word's
 control : (c : tie.Else-not-is_control invariant-loop decreases-loop) → is_control (address c.before) ≡ true
-control c = sym c.before.is_control.ensures ∙ not-false _ c.if-not-is_control.false
+control c = sym c.is_control.ensures ∙ c.if-not-is_control.false
 
 loop-i-init : tie.Need-loop-i-init invariant-loop decreases-loop
 loop-i-init c = (search rules, from_start _ _)
@@ -38,8 +38,8 @@ is_control-requires c κs = search rules
 
 returns-then-not-is_control : tie.Need-returns-then-not-is_control invariant-loop decreases-loop
 returns-then-not-is_control c =
-    stop _ _ _ _ c.before.before.before.before.loop-i.invariant.1 c.before.before.before.loop-i-test.true
-    (sym c.before.is_control.ensures ∙ not-true _ c.if-not-is_control.true)
+    stop _ _ _ _ c.loop-i.invariant.1 c.loop-i-test.true
+    (sym c.is_control.ensures ∙ c.if-not-is_control.true)
 
 word_after-now-requires : tie.Need-word_after-now-requires invariant-loop decreases-loop
 word_after-now-requires c κs = control c
@@ -54,7 +54,7 @@ loop-i-preserved : tie.Need-loop-i-preserved invariant-loop decreases-loop
 loop-i-preserved c = (
   search rules,
   rw c.word_after-now.ensures
-      (turn _ _ _ _ c.before.before.before.before.before.loop-i.invariant.1 c.before.before.before.before.loop-i-test.true
+      (turn _ _ _ _ c.loop-i.invariant.1 c.loop-i-test.true
       (control c.before)),
 )
 
@@ -62,7 +62,7 @@ overflow_cast-result : tie.Need-overflow_cast-result invariant-loop decreases-lo
 overflow_cast-result c = search rules
 
 returns-2 : tie.Need-returns invariant-loop decreases-loop
-returns-2 c = at_end _ _ _ _ c.before.loop-i.invariant.1 c.loop-i-test.false
+returns-2 c = at_end _ _ _ _ c.loop-i.invariant.1 c.loop-i-test.false
 
 pub play_spec : {M : Type 1} → statement M
 play_spec =

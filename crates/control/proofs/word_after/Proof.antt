@@ -17,13 +17,13 @@ overflow_shl-mask c = in_word _ c.requires
 returns-then-address-eq1 : tie.Need-returns-then-address-eq1
 unfolding word_after
 returns-then-address-eq1 c =
-    set_mask c.before.args.word _ (in_word _ c.before.requires) ∙ ap (with_bit c.before.args.word _) (sym c.if-address-eq1.true)
+    set_mask c.args.word _ (in_word _ c.requires) ∙ ap (with_bit c.args.word _) (sym c.if-address-eq1.true)
 
 returns-else-address-eq1 : tie.Need-returns-else-address-eq1
 unfolding word_after
 returns-else-address-eq1 c =
-    let even : 0 ≡ c.before.args.address % 2 = omega arith in
-    clear_mask c.before.args.word _ c.before.ranges.word.fits (in_word _ c.before.requires) ∙ ap (with_bit c.before.args.word _) even
+    let even : 0 ≡ c.args.address % 2 = omega arith in
+    clear_mask c.args.word _ c.ranges.word.fits (in_word _ c.requires) ∙ ap (with_bit c.args.word _) even
 
 pub word_after_spec : {M : Type 1} → statement M
 word_after_spec = tie.close (tie.spec overflow_sub-bit overflow_shl-mask returns-then-address-eq1 returns-else-address-eq1)

@@ -13,7 +13,7 @@ clearing_counts-requires : tie.Need-clearing_counts-requires
 clearing_counts-requires c κs = search rules
 
 returns : tie.Need-returns
-returns c = rw (c.clearing_counts.ensures, c.before.before.width-one_run.ensures, c.before.clears_b4-cleared.ensures)
+returns c = rw (c.clearing_counts.ensures, c.width-one_run.ensures, c.clears_b4-cleared.ensures)
 
 pub ends_count_spec : {M : Type 1} → statement M
 ends_count_spec = tie.close (tie.spec width-one_run-requires clears_b4-cleared-requires clearing_counts-requires returns)

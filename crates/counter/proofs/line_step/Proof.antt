@@ -7,8 +7,8 @@ use Rattle.counter.proofs.line_step.Statement.{statement}
 use Rattle.counter.proofs.line_step.Tie as tie
 
 -- what was asked is of the settings
-asked : (c : tie.After-clears_b4) → let s = c.before.before.args.settings in c.clears_b4.result || eqb c.before.width-two_runs.result 32 ≡ clears_b4 s || eqb (width s.look) 32
-asked c = ap₂ (λ (b : Bool) (w : ℕ). b || eqb w 32) c.clears_b4.ensures c.before.width-two_runs.ensures
+asked : (c : tie.After-clears_b4) → let s = c.args.settings in c.clears_b4.result || eqb c.width-two_runs.result 32 ≡ clears_b4 s || eqb (width s.look) 32
+asked c = ap₂ (λ (b : Bool) (w : ℕ). b || eqb w 32) c.clears_b4.ensures c.width-two_runs.ensures
 
 width-two_runs-requires : tie.Need-width-two_runs-requires
 width-two_runs-requires c κs = search rules

@@ -10,14 +10,14 @@ use Rattle.counter.proofs.row_lasts.Tie as tie
 
 -- where the X divider was read, and where the function starts
 abbrev x-of : tie.After-clears_b4 → tie.After-times_x-x
-x-of c = c.before.before.before
+x-of c = c.before.before.before.before
 
 abbrev start_of : tie.After-clears_b4 → tie.Start
-start_of c = (x-of c).before.before
+start_of c = c.before.before.before.before.before.before
 
 -- what was read is that of the settings
 x-is : (c : tie.After-clears_b4) → (x-of c).times_x-x.result ≡ div_x (start_of c).args.settings
-x-is c = (x-of c).times_x-x.ensures ∙ ap (λ (v : ℕ). get_or times_x v 0) (x-of c).before.video_mode.ensures
+x-is c = (x-of c).times_x-x.ensures ∙ ap (λ (v : ℕ). get_or times_x v 0) (x-of c).video_mode.ensures
 
 video_mode-requires : tie.Need-video_mode-requires
 video_mode-requires c κs = search rules
@@ -36,22 +36,22 @@ clears_b4-requires c κs = search rules
 
 overflow_mul-result : tie.Need-overflow_mul-result
 overflow_mul-result c =
-    let e = c.before in
-    let s = (start_of e).args.settings in
-    omega (arith, subst (λ (n : ℕ). n ≤ 32 * 192) (sym (ap₂ ◌*◌ e.before.before.width-wide.ensures e.before.line_lasts-lines.ensures)) (mul-le-mul (width_le s.look) (lines_le s)))
+    let e = c in
+    let s = (start_of c.before).args.settings in
+    omega (arith, subst (λ (n : ℕ). n ≤ 32 * 192) (sym (ap₂ ◌*◌ e.width-wide.ensures e.line_lasts-lines.ensures)) (mul-le-mul (width_le s.look) (lines_le s)))
 
 overflow_mul-result-else-clears_b4 : tie.Need-overflow_mul-result-else-clears_b4
 overflow_mul-result-else-clears_b4 c = omega (arith, x-is c.before, div_x_le (start_of c.before).args.settings)
 
 returns-then-clears_b4 : tie.Need-returns-then-clears_b4
 returns-then-clears_b4 c =
-    let e = c.before in
-    ap₂ ◌*◌ e.before.before.width-wide.ensures e.before.line_lasts-lines.ensures ∙ sym (lasts (start_of e).args.settings _ (sym e.clears_b4.ensures ∙ c.if-clears_b4.true))
+    let e = c in
+    ap₂ ◌*◌ e.width-wide.ensures e.line_lasts-lines.ensures ∙ sym (lasts (start_of c.before).args.settings _ (sym e.clears_b4.ensures ∙ c.if-clears_b4.true))
 
 returns-else-clears_b4 : tie.Need-returns-else-clears_b4
 returns-else-clears_b4 c =
-    let e = c.before in
-    ap (λ (x : ℕ). 32 * x) (x-is e) ∙ sym (lasts (start_of e).args.settings _ (sym e.clears_b4.ensures ∙ c.if-clears_b4.false))
+    let e = c in
+    ap (λ (x : ℕ). 32 * x) (x-is c.before) ∙ sym (lasts (start_of c.before).args.settings _ (sym e.clears_b4.ensures ∙ c.if-clears_b4.false))
 
 pub row_lasts_spec : {M : Type 1} → statement M
 row_lasts_spec =

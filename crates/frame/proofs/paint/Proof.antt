@@ -16,12 +16,12 @@ graphics-requires : tie.Need-graphics-requires
 graphics-requires c κs = search rules
 
 plot-requires : tie.Need-plot-requires
-plot-requires c κs = let s = start_of c.before.before in (sym c.before.before.graphics.ensures ∙ c.before.if-graphics.true, s.requires.strip_long, s.requires.frame_long)
+plot-requires c κs = let s = start_of c.before.before in (sym c.graphics.ensures ∙ c.if-graphics.true, s.requires.strip_long, s.requires.frame_long)
 
 text-requires : tie.Need-text-requires
 text-requires c κs =
     let s = start_of c.before.before in
-    let g = sym c.before.before.graphics.ensures ∙ c.before.if-graphics.false in
+    let g = sym c.graphics.ensures ∙ c.if-graphics.false in
     (g, s.requires.font_whole g, omega (arith, text_width s.args.look g, s.requires.strip_long), s.requires.frame_long)
 
 shape_of-frame-then-graphics : tie.Need-shape_of-frame-then-graphics
@@ -29,10 +29,10 @@ shape_of-frame-then-graphics c = search rules
 
 returns-then-graphics : tie.Need-returns-then-graphics
 returns-then-graphics c =
-    let g = c.before.before.before.before.before in
-    let s = start_of g in
-    by (λ k _ _. sym (in_graphics s.args.look s.args.font.now s.args.strip.now k (sym g.graphics.ensures ∙ c.before.before.before.before.if-graphics.true)))
-    c.before.before.plot.ensures
+    let g = c in
+    let s = start_of c.before.before.before.before.before in
+    by (λ k _ _. sym (in_graphics s.args.look s.args.font.now s.args.strip.now k (sym g.graphics.ensures ∙ c.if-graphics.true)))
+    c.plot.ensures
 
 shape_of-frame-else-graphics : tie.Need-shape_of-frame-else-graphics
 shape_of-frame-else-graphics c = search rules

@@ -16,7 +16,7 @@ fast_rate-requires c κs = search rules
 
 returns : tie.Need-returns
 returns c =
-    let s = c.before.before.before.args.settings in
+    let s = c.args.settings in
     let e : told_of c.fast_rate.result ≡ after_each (setting_order s) (done 0) = cc in
     e ∙ in_order (done 0) refl (setting_order s) tt
 

@@ -21,7 +21,7 @@ use Rattle.intake.proofs.settings_of.Tie as tie
 
 -- ---- the sheet's bytes and what was read of them, from each place
 abbrev bytes : tie.After-read-fields → List ℕ
-bytes c = c.before.before.args.sheet.now
+bytes c = c.args.sheet.now
 
 abbrev fields : tie.After-read-fields → Sheet
 fields c = c.read-fields.result
@@ -44,14 +44,14 @@ listed c = writes_are (fields_in (bytes c)).writes (fields c).writes (fields c).
 
 -- past the first test the sheet is accepted, and its writes are played
 accepted-at : (c : tie.Else-number-ne0) → (told_in (bytes (read_of c))).number ≡ 0
-accepted-at c = ap (λ (t : Told). t.number) (sym (read_of c).read-fields.ensures.told) ∙ sym c.before.number.ensures ∙ c.if-number-ne0.false
+accepted-at c = ap (λ (t : Told). t.number) (sym (read_of c).read-fields.ensures.told) ∙ sym c.number.ensures ∙ c.if-number-ne0.false
 
 played-all : (c : tie.After-play-played) → told_of c.play-played.result ≡ play_told 0 (fields_in (bytes (read_of (whole_of c)))).writes
 played-all c = c.play-played.ensures ∙ ap (play_told 0) (listed (read_of (whole_of c)))
 
 -- past the second none of them is elsewhere
 none_elsewhere : (c : tie.Else-number-ne0-2) → (play_told 0 (fields_in (bytes (read_of (whole_of (play-of c))))).writes).number ≡ 0
-none_elsewhere c = ap (λ (t : Told). t.number) (sym (played-all (play-of c))) ∙ sym c.before.number-2.ensures ∙ c.if-number-ne0-2.false
+none_elsewhere c = ap (λ (t : Told). t.number) (sym (played-all (play-of c))) ∙ sym c.number-2.ensures ∙ c.if-number-ne0-2.false
 
 -- the word that they leave, and the settings
 abbrev sheet-of : tie.After-value → tie.After-read-fields
@@ -85,9 +85,9 @@ refused-requires c κs = search rules
 
 returns-then-number-ne0 : tie.Need-returns-then-number-ne0
 returns-then-number-ne0 c =
-    let r = c.before.before.before in
-    let no : (told_of (fields r).answer).number ≡ 0 → ⊥ = λ z. c.before.if-number-ne0.true (c.before.before.number.ensures ∙ z) in
-    taken_refused (bytes r) (fields r).answer (told_broken (bytes r) r.read-fields.ensures.told no) (counted r) c.refused.ensures no
+    let r = c in
+    let no : (told_of (fields c.before.before.before).answer).number ≡ 0 → ⊥ = λ z. c.if-number-ne0.true (c.number.ensures ∙ z) in
+    taken_refused (bytes c.before.before.before) (fields c.before.before.before).answer (told_broken (bytes c.before.before.before) r.read-fields.ensures.told no) (counted c.before.before.before) c.refused.ensures no
 
 slice_bounds-writes-end : tie.Need-slice_bounds-writes-end
 slice_bounds-writes-end c =
@@ -110,10 +110,10 @@ refused-requires-then-number-ne0-2 c κs = search rules
 
 returns-then-number-ne0-2 : tie.Need-returns-then-number-ne0-2
 returns-then-number-ne0-2 c =
-    let p = c.before.before.before in
-    let w = whole_of p in
-    let no : (told_of p.play-played.result).number ≡ 0 → ⊥ = λ z. c.before.if-number-ne0-2.true (c.before.before.number-2.ensures ∙ z) in
-    taken_refused (bytes (read_of w)) p.play-played.result (told_elsewhere (bytes (read_of w)) (accepted-at w) (played-all p) no) (counted (read_of w)) c.refused-then-number-ne0-2.ensures no
+    let p = c in
+    let w = whole_of c.before.before.before in
+    let no : (told_of p.play-played.result).number ≡ 0 → ⊥ = λ z. c.if-number-ne0-2.true (c.number-2.ensures ∙ z) in
+    taken_refused (bytes (read_of w)) p.play-played.result (told_elsewhere (bytes (read_of w)) (accepted-at w) (played-all c.before.before.before) no) (counted (read_of w)) c.refused-then-number-ne0-2.ensures no
 
 value-requires : tie.Need-value-requires
 value-requires c κs = search rules
@@ -132,14 +132,14 @@ refused-requires-then-number-ne0-3 c κs = search rules
 
 returns-then-number-ne0-3 : tie.Need-returns-then-number-ne0-3
 returns-then-number-ne0-3 c =
-    let a = c.before.before.before in
-    taken_refused (bytes (sheet-of a.before)) a.settings_answer-answer.result (judged a) (counted (sheet-of a.before)) c.refused-then-number-ne0-3.ensures
-    (λ z. c.before.if-number-ne0-3.true (c.before.before.number-3.ensures ∙ z))
+    let a = c in
+    taken_refused (bytes (sheet-of c.before.before.before.before)) a.settings_answer-answer.result (judged c.before.before.before) (counted (sheet-of c.before.before.before.before)) c.refused-then-number-ne0-3.ensures
+    (λ z. c.if-number-ne0-3.true (c.number-3.ensures ∙ z))
 
 returns-4 : tie.Need-returns
 returns-4 c =
-    let a = c.before.before in
-    taken_done (bytes (sheet-of a.before)) a.settings_answer-answer.result (judged a) (counted (sheet-of a.before)) (refl, settings-are a.before, refl) (sym c.before.number-3.ensures ∙ c.if-number-ne0-3.false)
+    let a = c in
+    taken_done (bytes (sheet-of c.before.before.before)) a.settings_answer-answer.result (judged c.before.before) (counted (sheet-of c.before.before.before)) (refl, settings-are c.before.before.before, refl) (sym c.number-3.ensures ∙ c.if-number-ne0-3.false)
 
 pub settings_of_spec : {M : Type 1} → statement M
 settings_of_spec =

@@ -35,14 +35,14 @@ loop-t-smaller c = omega arith
 
 loop-t-preserved : tie.Need-loop-t-preserved invariant-loop decreases-loop
 loop-t-preserved c =
-    let l = c.before.before.loop-t in
-    let a = c.before.before.before.args in
+    let l = c.loop-t in
+    let a = c.args in
     (omega arith, λ e. let n = neither l.soon (eqb (get_or a.s.now (a.at + l.t) 0) 10) e in end_next a.s.now a.at l.t (omega arith) (eqb-false _ _ n.1) (l.invariant.1 n.0))
 
 returns : tie.Need-returns invariant-loop decreases-loop
 returns c =
-    let l = c.before.loop-t in
-    let a = c.before.before.args in
+    let l = c.loop-t in
+    let a = c.args in
     let all : l.t ≡ 16 = omega arith in
     λ e. subst (λ (n : ℕ). to_line_end (drop a.at a.s.now) ≡ n + to_line_end (drop (a.at + n) a.s.now)) all (l.invariant.1 e)
 

@@ -26,15 +26,15 @@ abbrev begin-of : tie.After-struct_known-2-1 → tie.Start
 begin-of c = start_of (own_of c)
 
 -- ---- the two sheets
-own-whole : (c : tie.Else-not-of_record) → WholeGiven (read_sheet (start_of c.before).args.«record».now) c.before.before.survey-of_record.result
-own-whole c = whole_given (read_sheet (start_of c.before).args.«record».now) c.before.before.survey-of_record.result c.before.before.survey-of_record.ensures (not-false _ c.if-not-of_record.false)
+own-whole : (c : tie.Else-not-of_record) → WholeGiven (read_sheet (start_of c.before).args.«record».now) c.survey-of_record.result
+own-whole c = whole_given (read_sheet (start_of c.before).args.«record».now) c.survey-of_record.result c.survey-of_record.ensures (c.if-not-of_record.false)
 
-cover-whole : (c : tie.Else-not-of_cover) → WholeGiven (read_sheet (begin-of c.before).args.cover.now) c.before.before.survey-of_cover.result
-cover-whole c = whole_given (read_sheet (begin-of c.before).args.cover.now) c.before.before.survey-of_cover.result c.before.before.survey-of_cover.ensures (not-false _ c.if-not-of_cover.false)
+cover-whole : (c : tie.Else-not-of_cover) → WholeGiven (read_sheet (begin-of c.before).args.cover.now) c.survey-of_cover.result
+cover-whole c = whole_given (read_sheet (begin-of c.before).args.cover.now) c.survey-of_cover.result c.survey-of_cover.ensures (c.if-not-of_cover.false)
 
 -- whether the record's sheet has the key
 own-lacks : (c : tie.Else-here) → has_key (begin-of c.before.before.before).args.«record».now (begin-of c.before.before.before).args.key.now ≡ false
-own-lacks c = sym (ap (λ (x : Found). x.found) c.before.seek-here.ensures) ∙ c.if-here.false
+own-lacks c = sym (ap (λ (x : Found). x.found) c.seek-here.ensures) ∙ c.if-here.false
 
 survey-of_record-requires : tie.Need-survey-of_record-requires
 survey-of_record-requires c κs = search rules
@@ -44,9 +44,9 @@ refused-requires c κs = search rules
 
 returns-then-not-of_record : tie.Need-returns-then-not-of_record
 returns-then-not-of_record c =
-    let p = c.before.before in
-    let a = (start_of p).args in
-    let g = broken_given (read_sheet a.«record».now) p.before.survey-of_record.result p.before.survey-of_record.ensures (not-true _ c.before.if-not-of_record.true) in
+    let p = c in
+    let a = (start_of c.before.before).args in
+    let g = broken_given (read_sheet a.«record».now) p.survey-of_record.result p.survey-of_record.ensures (c.if-not-of_record.true) in
     let e = broken_record a.«record».now a.cover.now a.key.now g.not_got in
     (ap told_of c.refused.ensures.0 ∙ ap (λ (t : Told). told 11 t.place 0) g.told_broken ∙ sym e.tells, c.refused.ensures.1 ∙ sym e.holds)
 
@@ -58,10 +58,10 @@ refused-requires-then-not-of_cover c κs = search rules
 
 returns-then-not-of_cover : tie.Need-returns-then-not-of_cover
 returns-then-not-of_cover c =
-    let p = c.before.before in
-    let a = (begin-of p).args in
-    let g = broken_given (read_sheet a.cover.now) p.before.survey-of_cover.result p.before.survey-of_cover.ensures (not-true _ c.before.if-not-of_cover.true) in
-    let e = broken_cover a.«record».now a.cover.now a.key.now (own-whole p.before.before).is_got_lem g.not_got in
+    let p = c in
+    let a = (begin-of c.before.before).args in
+    let g = broken_given (read_sheet a.cover.now) p.survey-of_cover.result p.survey-of_cover.ensures (c.if-not-of_cover.true) in
+    let e = broken_cover a.«record».now a.cover.now a.key.now (own-whole c.before.before.before.before).is_got_lem g.not_got in
     (ap told_of c.refused-then-not-of_cover.ensures.0 ∙ ap (λ (t : Told). told 11 t.place 0) g.told_broken ∙ sym e.tells, c.refused-then-not-of_cover.ensures.1 ∙ sym e.holds)
 
 seek-here-requires : tie.Need-seek-here-requires
@@ -74,11 +74,11 @@ taken-requires c κs = search rules
 
 returns-then-here : tie.Need-returns-then-here
 returns-then-here c =
-    let k = c.before.before in
-    let s = k.before in
-    let a = (begin-of s.before).args in
-    let h : has_key a.«record».now a.key.now ≡ true = sym (ap (λ (x : Found). x.found) k.seek-here.ensures) ∙ c.before.if-here.true in
-    let e = in_record a.«record».now a.cover.now a.key.now (own-whole s.before.before.before).is_got_lem (cover-whole s).is_got_lem h in (
+    let k = c in
+    let s = c in
+    let a = (begin-of c.before.before.before.before).args in
+    let h : has_key a.«record».now a.key.now ≡ true = sym (ap (λ (x : Found). x.found) k.seek-here.ensures) ∙ c.if-here.true in
+    let e = in_record a.«record».now a.cover.now a.key.now (own-whole c.before.before.before.before.before.before).is_got_lem (cover-whole c.before.before.before).is_got_lem h in (
       ap told_of c.taken.ensures.0 ∙ sym e.tells,
       c.taken.ensures.1 ∙ found_piece false a.«record».now a.key.now k.seek-here.result k.seek-here.ensures ∙ sym e.holds,
     )
@@ -93,12 +93,12 @@ taken-requires-then-there c κs = search rules
 
 returns-then-there : tie.Need-returns-then-there
 returns-then-there c =
-    let k = c.before.before in
-    let q = k.before in
-    let s = q.before.before in
-    let a = (begin-of s.before).args in
-    let h : has_key a.cover.now a.key.now ≡ true = sym (ap (λ (x : Found). x.found) k.seek-there.ensures) ∙ c.before.if-there.true in
-    let e = in_cover a.«record».now a.cover.now a.key.now (own-whole s.before.before.before).is_got_lem (cover-whole s).is_got_lem (own-lacks q) h in (
+    let k = c in
+    let q = c in
+    let s = c in
+    let a = (begin-of c.before.before.before.before.before.before).args in
+    let h : has_key a.cover.now a.key.now ≡ true = sym (ap (λ (x : Found). x.found) k.seek-there.ensures) ∙ c.if-there.true in
+    let e = in_cover a.«record».now a.cover.now a.key.now (own-whole c.before.before.before.before.before.before.before.before).is_got_lem (cover-whole c.before.before.before.before.before).is_got_lem (own-lacks c.before.before.before) h in (
       ap told_of c.taken-then-there.ensures.0 ∙ sym e.tells,
       c.taken-then-there.ensures.1 ∙ found_piece true a.cover.now a.key.now k.seek-there.result k.seek-there.ensures ∙ sym e.holds,
     )
@@ -108,12 +108,12 @@ refused-requires-3 c κs = search rules
 
 returns-5 : tie.Need-returns
 returns-5 c =
-    let l = c.before in
-    let q = l.before.before in
-    let s = q.before.before in
-    let a = (begin-of s.before).args in
-    let h : has_key a.cover.now a.key.now ≡ false = sym (ap (λ (x : Found). x.found) l.before.seek-there.ensures) ∙ l.if-there.false in
-    let e = in_neither a.«record».now a.cover.now a.key.now (own-whole s.before.before.before).is_got_lem (cover-whole s).is_got_lem (own-lacks q) h in
+    let l = c in
+    let q = c in
+    let s = c in
+    let a = (begin-of c.before.before.before.before.before.before).args in
+    let h : has_key a.cover.now a.key.now ≡ false = sym (ap (λ (x : Found). x.found) l.seek-there.ensures) ∙ l.if-there.false in
+    let e = in_neither a.«record».now a.cover.now a.key.now (own-whole c.before.before.before.before.before.before.before.before).is_got_lem (cover-whole c.before.before.before.before.before).is_got_lem (own-lacks c.before.before.before) h in
     (ap told_of c.refused-2.ensures.0 ∙ sym e.tells, c.refused-2.ensures.1 ∙ sym e.holds)
 
 pub find_spec : {M : Type 1} → statement M

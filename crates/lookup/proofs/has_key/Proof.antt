@@ -18,10 +18,10 @@ overflow_sub-s : tie.Need-overflow_sub-s invariant-loop decreases-loop
 overflow_sub-s c = omega arith
 
 returns-then-s-at : tie.Need-returns-then-s-at invariant-loop decreases-loop
-returns-then-s-at c = let a = c.before.args in sym (key_short a.key.now a.s.now a.at c.if-s-at.true)
+returns-then-s-at c = let a = c.args in sym (key_short a.key.now a.s.now a.at c.if-s-at.true)
 
 loop-i-init : tie.Need-loop-i-init invariant-loop decreases-loop
-loop-i-init c = let a = c.before.args in (omega arith, key_start a.key.now a.s.now a.at)
+loop-i-init c = let a = c.args in (omega arith, key_start a.key.now a.s.now a.at)
 
 overflow_add-b : tie.Need-overflow_add-b invariant-loop decreases-loop
 overflow_add-b c = omega arith
@@ -34,8 +34,8 @@ bounds-key-i c = omega arith
 
 returns-then-b-key : tie.Need-returns-then-b-key invariant-loop decreases-loop
 returns-then-b-key c =
-    let l = c.before.before.before.before.loop-i in
-    let a = c.before.before.before.before.before.before.args in
+    let l = c.loop-i in
+    let a = c.args in
     sym (l.invariant.1 ∙ key_off a.key.now a.s.now l.i a.at (omega arith) (omega arith) c.if-b-key.true)
 
 overflow_add-i : tie.Need-overflow_add-i invariant-loop decreases-loop
@@ -46,8 +46,8 @@ loop-i-smaller c = omega arith
 
 loop-i-preserved : tie.Need-loop-i-preserved invariant-loop decreases-loop
 loop-i-preserved c =
-    let l = c.before.before.before.before.loop-i in
-    let a = c.before.before.before.before.before.before.args in
+    let l = c.loop-i in
+    let a = c.args in
     (omega arith, l.invariant.1 ∙ key_more a.key.now a.s.now l.i a.at (omega arith) (omega arith) c.if-b-key.false)
 
 overflow_add-result : tie.Need-overflow_add-result invariant-loop decreases-loop
@@ -58,8 +58,8 @@ bounds-s-at-2 c = omega arith
 
 returns-3 : tie.Need-returns invariant-loop decreases-loop
 returns-3 c =
-    let l = c.before.before.loop-i in
-    let a = c.before.before.before.before.args in
+    let l = c.loop-i in
+    let a = c.args in
     sym (l.invariant.1 ∙ key_last a.key.now a.s.now l.i a.at (omega arith) (omega arith))
 
 pub has_key_spec : {M : Type 1} → statement M

@@ -23,7 +23,7 @@ ends_soon-requires : tie.Need-ends_soon-requires invariant-loop decreases-loop
 ends_soon-requires c κs = omega arith
 
 returns-then-ends_soon : tie.Need-returns-then-ends_soon invariant-loop decreases-loop
-returns-then-ends_soon c = c.before.before.before.loop-i.invariant
+returns-then-ends_soon c = c.loop-i.invariant
 
 overflow_add-i : tie.Need-overflow_add-i invariant-loop decreases-loop
 overflow_add-i c = omega arith
@@ -32,10 +32,10 @@ loop-i-smaller : tie.Need-loop-i-smaller invariant-loop decreases-loop
 loop-i-smaller c = omega arith
 
 loop-i-preserved : tie.Need-loop-i-preserved invariant-loop decreases-loop
-loop-i-preserved c = (omega arith, omega (arith, c.before.before.before.loop-i.invariant.1, c.before.ends_soon.ensures c.if-ends_soon.false))
+loop-i-preserved c = (omega arith, omega (arith, c.loop-i.invariant.1, c.ends_soon.ensures c.if-ends_soon.false))
 
 returns-2 : tie.Need-returns invariant-loop decreases-loop
-returns-2 c = c.before.loop-i.invariant
+returns-2 c = c.loop-i.invariant
 
 pub near_end_spec : {M : Type 1} → statement M
 near_end_spec =

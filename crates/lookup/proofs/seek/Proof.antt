@@ -16,21 +16,21 @@ abbrev decreases-loop : tie.decreases-loop-at
 decreases-loop s from key at₀ at = length s - at
 
 -- the line of this turn
-this : (c : tie.In-loop-at invariant-loop decreases-loop) → Here c.before.before.before.before.args.s.now c.before.before.before.before.args.key.now c.before.loop-at.at
+this : (c : tie.In-loop-at invariant-loop decreases-loop) → Here c.args.s.now c.args.key.now c.loop-at.at
 this c =
-    let e = c.before.before.before.before in
-    line_here e.args.s.now e.args.key.now e.requires.0 c.before.loop-at.at c.before.loop-at.invariant (omega arith)
+    let e = c in
+    line_here e.args.s.now e.args.key.now e.requires.0 c.loop-at.at c.loop-at.invariant (omega arith)
 
 -- where it ends
-end_of : (c : tie.After-line_end-end invariant-loop decreases-loop) → c.line_end-end.result ≡ c.before.before.loop-at.at + (this c.before).size
-end_of c = c.line_end-end.ensures ∙ ap (λ (n : ℕ). c.before.before.loop-at.at + n) (this c.before).ends
+end_of : (c : tie.After-line_end-end invariant-loop decreases-loop) → c.line_end-end.result ≡ c.loop-at.at + (this c.before).size
+end_of c = c.line_end-end.ensures ∙ ap (λ (n : ℕ). c.loop-at.at + n) (this c.before).ends
 
 -- where it has the key
-keyed : (c : tie.Then-has_key invariant-loop decreases-loop) → keyed_by c.before.before.before.before.before.before.before.args.key.now (drop c.before.before.before.before.loop-at.at c.before.before.before.before.before.before.before.args.s.now) ≡ true
-keyed c = sym c.before.has_key_lem.ensures ∙ c.if-has_key.true
+keyed : (c : tie.Then-has_key invariant-loop decreases-loop) → keyed_by c.args.key.now (drop c.loop-at.at c.args.s.now) ≡ true
+keyed c = sym c.has_key_lem.ensures ∙ c.if-has_key.true
 
 loop-at-init : tie.Need-loop-at-init invariant-loop decreases-loop
-loop-at-init c = let e = c.before.before in nothing_passed e.args.s.now e.args.key.now e.args.from e.requires.1
+loop-at-init c = let e = c in nothing_passed e.args.s.now e.args.key.now e.args.from e.requires.1
 
 line_end-end-requires : tie.Need-line_end-end-requires invariant-loop decreases-loop
 line_end-end-requires c κs = omega arith
@@ -48,7 +48,7 @@ overflow_sub-result : tie.Need-overflow_sub-result invariant-loop decreases-loop
 overflow_sub-result c = let t = this c.before.before.before in omega (arith, t.long (keyed c), end_of c.before.before)
 
 returns-then-has_key : tie.Need-returns-then-has_key invariant-loop decreases-loop
-returns-then-has_key c = (this c.before.before.before).found c.before.before.line_end-end.result (end_of c.before.before) (keyed c)
+returns-then-has_key c = (this c.before.before.before).found c.line_end-end.result (end_of c.before.before) (keyed c)
 
 overflow_add-at : tie.Need-overflow_add-at invariant-loop decreases-loop
 overflow_add-at c = omega (arith, (this c.before.before.before).within, end_of c.before.before)
@@ -57,12 +57,12 @@ loop-at-smaller : tie.Need-loop-at-smaller invariant-loop decreases-loop
 loop-at-smaller c = omega (arith, end_of c.before.before)
 
 loop-at-preserved : tie.Need-loop-at-preserved invariant-loop decreases-loop
-loop-at-preserved c = (this c.before.before.before).missed c.before.before.line_end-end.result (end_of c.before.before) (sym c.before.has_key_lem.ensures ∙ c.if-has_key.false)
+loop-at-preserved c = (this c.before.before.before).missed c.line_end-end.result (end_of c.before.before) (sym c.has_key_lem.ensures ∙ c.if-has_key.false)
 
 returns-2 : tie.Need-returns invariant-loop decreases-loop
 returns-2 c =
-    let e = c.before.before.before.before in
-    none_left e.args.s.now e.args.key.now e.requires.0 c.before.loop-at.at c.before.loop-at.invariant (omega arith)
+    let e = c in
+    none_left e.args.s.now e.args.key.now e.requires.0 c.loop-at.at c.loop-at.invariant (omega arith)
 
 pub seek_spec : {M : Type 1} → statement M
 seek_spec =

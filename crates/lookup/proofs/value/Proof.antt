@@ -16,17 +16,17 @@ abbrev start_of : tie.After-struct_known-1 → tie.Start
 start_of c = c.before.before.before.before.before
 
 -- the value lies within its sheet, the cover or not
-within : (c : tie.After-struct_known-1) (b : Bool) → c.before.find-found.result.piece.in_cover ≡ b → c.before.find-found.result.piece.from + c.before.find-found.result.piece.size ≤ length (choose b (start_of c).args.cover.now (start_of c).args.«record».now)
-within c b h = let a = (start_of c).args in inside a.«record» a.cover a.key.now c.before.find-found.result.piece c.before.find-found.ensures.1 b h
+within : (c : tie.After-struct_known-1) (b : Bool) → c.find-found.result.piece.in_cover ≡ b → c.find-found.result.piece.from + c.find-found.result.piece.size ≤ length (choose b (start_of c).args.cover.now (start_of c).args.«record».now)
+within c b h = let a = (start_of c).args in inside a.«record» a.cover a.key.now c.find-found.result.piece c.find-found.ensures.1 b h
 
 find-found-requires : tie.Need-find-found-requires
 find-found-requires c κs = search rules
 
 overflow_add-end : tie.Need-overflow_add-end
 overflow_add-end c =
-    by_test c.before.find-found.result.piece.in_cover
-    (λ (h : c.before.find-found.result.piece.in_cover ≡ true). omega (arith, within c true h))
-    (λ (h : c.before.find-found.result.piece.in_cover ≡ false). omega (arith, within c false h))
+    by_test c.find-found.result.piece.in_cover
+    (λ (h : c.find-found.result.piece.in_cover ≡ true). omega (arith, within c true h))
+    (λ (h : c.find-found.result.piece.in_cover ≡ false). omega (arith, within c false h))
 
 slice_bounds-result-count : tie.Need-slice_bounds-result-count
 slice_bounds-result-count c = omega arith
@@ -39,11 +39,11 @@ slice_bounds-result-end c = within c.before true c.if-found.true
 
 returns-then-found : tie.Need-returns-then-found
 returns-then-found c =
-    let p = c.before.before in
-    let r = p.before.find-found in
-    let a = (start_of p).args in
+    let p = c in
+    let r = p.find-found in
+    let a = (start_of c.before.before).args in
     let z : r.result.piece.from + r.result.piece.size - r.result.piece.from ≡ r.result.piece.size = omega arith in
-    promised a.«record» a.cover a.key.now r.result.piece r.ensures.1 true c.before.if-found.true (r.result.piece.from + r.result.piece.size - r.result.piece.from) _ z (record { bytes = refl; block = refl; offset = refl })
+    promised a.«record» a.cover a.key.now r.result.piece r.ensures.1 true c.if-found.true (r.result.piece.from + r.result.piece.size - r.result.piece.from) _ z (record { bytes = refl; block = refl; offset = refl })
 
 slice_bounds-result-count-2 : tie.Need-slice_bounds-result-count-2
 slice_bounds-result-count-2 c = omega arith
@@ -56,11 +56,11 @@ slice_bounds-result-end-2 c = within c.before false c.if-found.false
 
 returns-2 : tie.Need-returns
 returns-2 c =
-    let p = c.before.before in
-    let r = p.before.find-found in
-    let a = (start_of p).args in
+    let p = c in
+    let r = p.find-found in
+    let a = (start_of c.before.before).args in
     let z : r.result.piece.from + r.result.piece.size - r.result.piece.from ≡ r.result.piece.size = omega arith in
-    promised a.«record» a.cover a.key.now r.result.piece r.ensures.1 false c.before.if-found.false (r.result.piece.from + r.result.piece.size - r.result.piece.from) _ z (record { bytes = refl; block = refl; offset = refl })
+    promised a.«record» a.cover a.key.now r.result.piece r.ensures.1 false c.if-found.false (r.result.piece.from + r.result.piece.size - r.result.piece.from) _ z (record { bytes = refl; block = refl; offset = refl })
 
 pub value_spec : {M : Type 1} → statement M
 value_spec =

@@ -8,10 +8,10 @@ report-text-requires : tie.Need-report-text-requires
 report-text-requires c κs = search rules
 
 slice_bounds-bytes-end : tie.Need-slice_bounds-bytes-end
-slice_bounds-bytes-end c = text_within _ _ c.before.report-text.result c.before.report-text.ensures
+slice_bounds-bytes-end c = text_within _ _ c.report-text.result c.report-text.ensures
 
 slice_bounds-write_all-end : tie.Need-slice_bounds-write_all-end
-slice_bounds-write_all-end c = text_held _ _ c.before.before.report-text.result c.before.before.report-text.ensures
+slice_bounds-write_all-end c = text_held _ _ c.report-text.result c.report-text.ensures
 
 write_all-requires : tie.Need-write_all-requires
 write_all-requires c κs = search rules

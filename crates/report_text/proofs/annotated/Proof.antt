@@ -21,16 +21,16 @@ tail-requires : tie.Need-tail-requires
 tail-requires c κs = search rules
 
 append-requires : tie.Need-append-requires
-append-requires c κs = (c.before.number_line-counted.ensures.1.0, omega (arith, c.before.number_line-counted.ensures.1.1, ap length (tail_holds _ c.tail.lifetimes _ c.tail.ensures), tail_small c.before.before.before.before.args.lent.now))
+append-requires c κs = (c.number_line-counted.ensures.1.0, omega (arith, c.number_line-counted.ensures.1.1, ap length (tail_holds _ c.tail.lifetimes _ c.tail.ensures), tail_small c.args.lent.now))
 
 returns : tie.Need-returns
 returns c =
-    let a = c.before.before.before.before.before.args in
+    let a = c.args in
     let f = (fields_in a.lent.now).annotations in
-    let e = then_line (held a.text) (annotations_word ++ eq) (decimal (length f)) c.before.before.before.before.before.requires.0 c.before.before.number_line-counted.ensures.0 (ap decimal c.before.before.before.before.before.requires.2) in
+    let e = then_line (held a.text) (annotations_word ++ eq) (decimal (length f)) c.requires.0 c.number_line-counted.ensures.0 (ap decimal c.requires.2) in
     let l = (annotations_word ++ eq) ++ (decimal (length f) ++ nl) in
-    grows (held a.text ++ l) c.before.tail.result.now e c.append.ensures.0
-    ∙ ap (λ (x : List ℕ). text_of ((held a.text ++ l) ++ x)) (tail_holds _ c.before.tail.lifetimes _ c.before.tail.ensures)
+    grows (held a.text ++ l) c.tail.result.now e c.append.ensures.0
+    ∙ ap (λ (x : List ℕ). text_of ((held a.text ++ l) ++ x)) (tail_holds _ c.tail.lifetimes _ c.tail.ensures)
     ∙ ap text_of (append_assoc (held a.text) l (lines f))
 
 pub annotated_spec : {M : Type 1} → statement M

@@ -18,7 +18,7 @@ abbrev decreases-loop : tie.decreases-loop-i
 decreases-loop part at bytes₀ i₀ bytes i = length part - i
 
 loop-i-init : tie.Need-loop-i-init invariant-loop decreases-loop
-loop-i-init c = (omega arith, place_long _ c.before.requires.0 (omega arith), paste-zero _ c.before.args.text.len c.before.args.part.now)
+loop-i-init c = (omega arith, place_long _ c.requires.0 (omega arith), paste-zero _ c.args.text.len c.args.part.now)
 
 bounds-part-i : tie.Need-bounds-part-i invariant-loop decreases-loop
 bounds-part-i c = omega arith
@@ -37,12 +37,12 @@ loop-i-smaller c = omega arith
 
 loop-i-preserved : tie.Need-loop-i-preserved invariant-loop decreases-loop
 loop-i-preserved c =
-    let l = c.before.before.loop-i in
-    let a = c.before.before.before.before.args in (
+    let l = c.loop-i in
+    let a = c.args in (
       omega arith,
       simp length-set l.invariant.1,
       ap (λ (x : List ℕ). set x (a.text.len + l.i) (get_or a.part.now l.i 0)) l.invariant.2
-          ∙ paste-suc a.text.bytes a.text.len a.part.now l.i 0 (omega (arith, place_long _ c.before.before.before.before.requires.0 (omega arith))) (omega arith)
+          ∙ paste-suc a.text.bytes a.text.len a.part.now l.i 0 (omega (arith, place_long _ c.requires.0 (omega arith))) (omega arith)
           ∙ ap (paste a.text.bytes a.text.len a.part.now) (sym (add-one l.i)),
     )
 
@@ -51,8 +51,8 @@ overflow_add-result c = omega arith
 
 returns : tie.Need-returns invariant-loop decreases-loop
 returns c =
-    let e : c.before.loop-i.i ≡ length c.before.before.before.args.part.now = omega arith in
-    let g = pasted c.before.before.before.args.text c.before.before.before.args.part.now c.before.before.before.requires.0 c.before.before.before.requires.1 e c.before.loop-i.invariant.2 in
+    let e : c.loop-i.i ≡ length c.args.part.now = omega arith in
+    let g = pasted c.args.text c.args.part.now c.requires.0 c.requires.1 e c.loop-i.invariant.2 in
     (g, (holds_text _ g, refl))
 
 pub append_spec : {M : Type 1} → statement M

@@ -15,7 +15,7 @@ loop-rest-init : tie.Need-loop-rest-init invariant-loop decreases-loop
 loop-rest-init c = none_found c.args.n c.ranges.n.fits
 
 overflow_sub-from : tie.Need-overflow_sub-from invariant-loop decreases-loop
-overflow_sub-from c = omega (arith, c.before.loop-rest.invariant.some)
+overflow_sub-from c = omega (arith, c.loop-rest.invariant.some)
 
 overflow_cast-bytes : tie.Need-overflow_cast-bytes invariant-loop decreases-loop
 overflow_cast-bytes c = omega arith
@@ -24,16 +24,16 @@ overflow_add-bytes : tie.Need-overflow_add-bytes invariant-loop decreases-loop
 overflow_add-bytes c = omega arith
 
 bounds-bytes-from : tie.Need-bounds-bytes-from invariant-loop decreases-loop
-bounds-bytes-from c = omega (arith, c.before.loop-rest.invariant.some, c.before.loop-rest.invariant.within)
+bounds-bytes-from c = omega (arith, c.loop-rest.invariant.some, c.loop-rest.invariant.within)
 
 loop-rest-smaller : tie.Need-loop-rest-smaller invariant-loop decreases-loop
 loop-rest-smaller c = omega arith
 
 loop-rest-preserved : tie.Need-loop-rest-preserved invariant-loop decreases-loop
-loop-rest-preserved c = one_more _ c.loop-rest-test.true c.before.loop-rest.invariant
+loop-rest-preserved c = one_more _ c.loop-rest-test.true c.loop-rest.invariant
 
 overflow_sub-from-2 : tie.Need-overflow_sub-from-2 invariant-loop decreases-loop
-overflow_sub-from-2 c = omega (arith, c.before.loop-rest.invariant.some)
+overflow_sub-from-2 c = omega (arith, c.loop-rest.invariant.some)
 
 overflow_cast-bytes-2 : tie.Need-overflow_cast-bytes-2 invariant-loop decreases-loop
 overflow_cast-bytes-2 c = omega arith
@@ -42,10 +42,10 @@ overflow_add-bytes-2 : tie.Need-overflow_add-bytes-2 invariant-loop decreases-lo
 overflow_add-bytes-2 c = omega arith
 
 bounds-bytes-from-2 : tie.Need-bounds-bytes-from-2 invariant-loop decreases-loop
-bounds-bytes-from-2 c = omega (arith, c.before.loop-rest.invariant.some, c.before.loop-rest.invariant.within)
+bounds-bytes-from-2 c = omega (arith, c.loop-rest.invariant.some, c.loop-rest.invariant.within)
 
 returns : tie.Need-returns invariant-loop decreases-loop
-returns c = (last_one _ c.loop-rest-test.false c.before.loop-rest.invariant, omega (arith, c.before.loop-rest.invariant.within), simp length-set c.before.loop-rest.invariant.long)
+returns c = (last_one _ c.loop-rest-test.false c.loop-rest.invariant, omega (arith, c.loop-rest.invariant.within), simp length-set c.loop-rest.invariant.long)
 
 pub decimal_spec : {M : Type 1} → statement M
 decimal_spec =

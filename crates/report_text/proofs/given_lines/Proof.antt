@@ -18,14 +18,14 @@ abbrev pins-of : tie.After-line-one → tie.After-hex-pins
 pins-of c = c.before.before.before.before
 
 abbrev call-of : tie.After-line-one → tie.Start
-call-of c = (pins-of c).before.before.before
+call-of c = c.before.before.before.before.before.before.before
 
 -- the text with the line of the pins
 pinned : (c : tie.After-line-one) → c.line-one.result ≡ text_of (held (call-of c).args.text ++ line_of pins_word (hex 2 (call-of c).args.settings.look.pins))
 pinned c =
     let p = (call-of c).args.settings.look.pins in
     then_line (held (call-of c).args.text) (pins_word ++ eq) (hex 2 p) (call-of c).requires.0 c.line-one.ensures.0
-    (ap (λ (x : List ℕ). take 2 (drop 2 x)) (pins-of c).hex-pins.ensures ∙ two_digits p (omega (arith, (pins-of c).before.struct_known-1.given)))
+    (ap (λ (x : List ℕ). take 2 (drop 2 x)) (pins-of c).hex-pins.ensures ∙ two_digits p (omega (arith, (pins-of c).struct_known-1.given)))
 
 overflow_cast-look : tie.Need-overflow_cast-look
 overflow_cast-look c = search rules
@@ -56,10 +56,10 @@ line-requires-2 c κs = search rules
 
 returns : tie.Need-returns
 returns c =
-    let h = c.before.before.before in
-    let e = then_line _ (control_word ++ eq) (hex 4 (call-of h.before).args.settings.word) (pinned h.before) c.line.ensures.0 h.hex-control.ensures in (
+    let h = c in
+    let e = then_line _ (control_word ++ eq) (hex 4 (call-of c.before.before.before.before.before).args.settings.word) (pinned c.before.before.before.before.before) c.line.ensures.0 h.hex-control.ensures in (
       e ∙ ap text_of (simp append_assoc),
-      (c.line.ensures.1.0, omega (arith, c.line.ensures.1.1, h.before.line-one.ensures.1.1, ap length h.hex-control.ensures)),
+      (c.line.ensures.1.0, omega (arith, c.line.ensures.1.1, h.line-one.ensures.1.1, ap length h.hex-control.ensures)),
     )
 
 pub given_lines_spec : {M : Type 1} → statement M

@@ -20,9 +20,9 @@ append-requires-3 c κs = search rules
 
 returns : tie.Need-returns
 returns c =
-    let a = c.before.before.before.before.before.before.args in
-    let one = c.before.before.before.append.ensures.0 in
-    let two = grows (held a.text ++ a.word.now) a.value.now one c.before.before.append-2.ensures.0 in
+    let a = c.args in
+    let one = c.append.ensures.0 in
+    let two = grows (held a.text ++ a.word.now) a.value.now one c.append-2.ensures.0 in
     let three = grows ((held a.text ++ a.word.now) ++ a.value.now) nl two c.append-3.ensures.0 in
     (three ∙ ap text_of (simp append_assoc), (c.append-3.ensures.1.0, omega arith))
 

@@ -21,15 +21,15 @@ slice_bounds-line-start : tie.Need-slice_bounds-line-start
 slice_bounds-line-start c = search rules
 
 slice_bounds-line-end : tie.Need-slice_bounds-line-end
-slice_bounds-line-end c = omega (arith, c.before.before.decimal-digits.ensures.2)
+slice_bounds-line-end c = omega (arith, c.decimal-digits.ensures.2)
 
 line-requires : tie.Need-line-requires
 line-requires c κs = search rules
 
 returns : tie.Need-returns
 returns c =
-    let d = c.before.before.before.before.decimal-digits in
-    let a = c.before.before.before.before.before.before.args in
+    let d = c.decimal-digits in
+    let a = c.args in
     let long : length (drop d.result.from d.result.bytes) ≡ 20 - d.result.from = length-drop d.result.from d.result.bytes ∙ ap (λ (n : ℕ). n - d.result.from) d.ensures.2 in
     let v : take (20 - d.result.from) (drop d.result.from d.result.bytes) ≡ decimal a.n = take_all (20 - d.result.from) (drop d.result.from d.result.bytes) (omega arith) ∙ d.ensures.0 in (
       c.line.ensures.0 ∙ ap (λ (v : List ℕ). text_of (held a.text ++ (a.word.now ++ (v ++ nl)))) v,

@@ -14,10 +14,10 @@ settings_of-taken-requires c κs = search rules
 text_for-requires : tie.Need-text_for-requires
 text_for-requires c κs =
     let taken = c.settings_of-taken.ensures in
-    (taken.annotations, λ e. taken.settings ∙ given_done c.before.before.args.sheet.now (ap (λ (t : Told). t.number) (sym taken.told) ∙ e))
+    (taken.annotations, λ e. taken.settings ∙ given_done c.args.sheet.now (ap (λ (t : Told). t.number) (sym taken.told) ∙ e))
 
 returns : tie.Need-returns
-returns c = c.text_for.ensures ∙ ap (λ (t : Told). text_of (text_for t c.before.before.before.args.sheet.now)) c.before.settings_of-taken.ensures.told
+returns c = c.text_for.ensures ∙ ap (λ (t : Told). text_of (text_for t c.args.sheet.now)) c.settings_of-taken.ensures.told
 
 pub report_spec : {M : Type 1} → statement M
 report_spec = tie.close (tie.spec settings_of-taken-requires text_for-requires returns)

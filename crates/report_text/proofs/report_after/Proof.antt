@@ -17,7 +17,7 @@ abbrev start_of : tie.After-check-told → tie.Start
 start_of c = c.before.before.before
 
 told_is : (c : tie.After-check-told) → told_of c.check-told.result ≡ told_after (start_of c).args.sheet.now (told_of (start_of c).args.answer)
-told_is c = c.check-told.ensures ∙ ap (after (check true (told_of (start_of c).args.answer))) c.before.settings_of-taken.ensures.told
+told_is c = c.check-told.ensures ∙ ap (after (check true (told_of (start_of c).args.answer))) c.settings_of-taken.ensures.told
 
 settings_of-taken-requires : tie.Need-settings_of-taken-requires
 settings_of-taken-requires c κs = search rules
@@ -27,12 +27,12 @@ check-told-requires c κs = search rules
 
 text_for-requires : tie.Need-text_for-requires
 text_for-requires c κs =
-    let taken = c.before.settings_of-taken.ensures in
-    let a = (start_of c).args in
-    (taken.annotations, λ e. taken.settings ∙ given_done a.sheet.now (after_done a.sheet.now (told_of a.answer) (ap (λ (t : Told). t.number) (sym (told_is c)) ∙ e)))
+    let taken = c.settings_of-taken.ensures in
+    let a = (start_of c.before).args in
+    (taken.annotations, λ e. taken.settings ∙ given_done a.sheet.now (after_done a.sheet.now (told_of a.answer) (ap (λ (t : Told). t.number) (sym (told_is c.before)) ∙ e)))
 
 returns : tie.Need-returns
-returns c = c.text_for.ensures ∙ ap (λ (t : Told). text_of (text_for t (start_of c.before).args.sheet.now)) (told_is c.before)
+returns c = c.text_for.ensures ∙ ap (λ (t : Told). text_of (text_for t (start_of c.before.before).args.sheet.now)) (told_is c.before.before)
 
 pub report_after_spec : {M : Type 1} → statement M
 report_after_spec =

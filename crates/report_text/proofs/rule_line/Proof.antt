@@ -21,8 +21,8 @@ line-requires c κs = search rules
 
 returns : tie.Need-returns
 returns c =
-    let d = c.before.before in
-    let a = d.before.before in (
+    let d = c in
+    let a = c in (
       then_line (held a.args.text) (rule_word ++ eq) (rule_digit a.args.settings.rule ∷ []) a.requires.0 c.line.ensures.0 (ap (λ (b : ℕ). b ∷ []) d.rule_digit.ensures),
       (c.line.ensures.1.0, omega (arith, c.line.ensures.1.1)),
     )

@@ -19,17 +19,17 @@ use Rattle.report_text.proofs.view_lines.Tie as tie
 
 -- ---- the mode's name, and where the function starts, from the place after the line of the mode
 abbrev name_of : tie.After-line-one → tie.After-mode_name-name
-name_of c = c.before.before.before.before
+name_of c = c.before.before.before.before.before
 
 abbrev call-of : tie.After-line-one → tie.Start
-call-of c = (name_of c).before
+call-of c = c.before.before.before.before.before.before.before
 
 -- the letters of the name are those of the mode, and few
-letters-are : (c : tie.After-mode_name-name) → take c.mode_name-name.result.len c.mode_name-name.result.bytes ≡ mode_name c.before.args.settings.look
-letters-are c = name_is c.before.args.settings.look c.mode_name-name.result c.mode_name-name.ensures
+letters-are : (c : tie.After-mode_name-name) → take c.mode_name-name.result.len c.mode_name-name.result.bytes ≡ mode_name c.args.settings.look
+letters-are c = name_is c.args.settings.look c.mode_name-name.result c.mode_name-name.ensures
 
 letters-few : (c : tie.After-mode_name-name) → length (take c.mode_name-name.result.len c.mode_name-name.result.bytes) ≤ 3
-letters-few c = rw (letters-are c) (name_small c.before.args.settings.look)
+letters-few c = rw (letters-are c) (name_small c.args.settings.look)
 
 -- the text with the line of the mode
 moded : (c : tie.After-line-one) → c.line-one.result ≡ text_of (held (call-of c).args.text ++ line_of mode_word (mode_name (call-of c).args.settings.look))
@@ -41,25 +41,25 @@ moded-long c = omega (arith, c.line-one.ensures.1.1, letters-few (name_of c))
 -- the digits of the start
 digits_are : (c : tie.After-hex-start) → c.hex-start.result ≡ hex 4 (address_of (call-of c.before.before).args.settings 0 0)
 digits_are c =
-    c.hex-start.ensures ∙ ap (hex 4) (ap (λ (d : Counter). d.address) c.before.start-first.ensures ∙ first_address (call-of c.before.before).args.settings)
+    c.hex-start.ensures ∙ ap (hex 4) (ap (λ (d : Counter). d.address) c.start-first.ensures ∙ first_address (call-of c.before.before).args.settings)
 
 mode_name-name-requires : tie.Need-mode_name-name-requires
 mode_name-name-requires c κs = search rules
 
 slice_bounds-letters-end : tie.Need-slice_bounds-letters-end
 slice_bounds-letters-end c =
-    let n = c.before.before in
-    name_within n.before.args.settings.look n.mode_name-name.result n.mode_name-name.ensures
+    let n = c in
+    name_within n.args.settings.look n.mode_name-name.result n.mode_name-name.ensures
 
 slice_bounds-line-end-2 : tie.Need-slice_bounds-line-end-2
 slice_bounds-line-end-2 c =
-    let n = c.before.before.before in
-    sym (name_long n.before.args.settings.look n.mode_name-name.result n.mode_name-name.ensures)
+    let n = c in
+    sym (name_long n.args.settings.look n.mode_name-name.result n.mode_name-name.ensures)
 
 line-one-requires : tie.Need-line-one-requires
 line-one-requires c κs =
-    let n = c.before.before.before in
-    (n.before.requires.0, omega (arith, n.before.requires.1, letters-few n))
+    let n = c in
+    (n.requires.0, omega (arith, n.requires.1, letters-few c.before.before.before.before))
 
 start-first-requires : tie.Need-start-first-requires
 start-first-requires c κs = search rules
@@ -72,17 +72,17 @@ slice_bounds-line-end-4 c = search rules
 
 line-requires-2 : tie.Need-line-requires
 line-requires-2 c κs =
-    let h = c.before.before in
-    let l = h.before.before in
-    (l.line-one.ensures.1.0, omega (arith, (call-of l).requires.1, moded-long l, ap length (digits_are h)))
+    let h = c in
+    let l = c in
+    (l.line-one.ensures.1.0, omega (arith, (call-of c.before.before.before.before.before).requires.1, moded-long c.before.before.before.before.before, ap length (digits_are c.before.before.before)))
 
 returns : tie.Need-returns
 returns c =
-    let h = c.before.before.before in
-    let l = h.before.before in
-    let e = then_line _ (start_word ++ eq) (hex 4 (address_of (call-of l).args.settings 0 0)) (moded l) c.line.ensures.0 (digits_are h) in (
+    let h = c in
+    let l = c in
+    let e = then_line _ (start_word ++ eq) (hex 4 (address_of (call-of c.before.before.before.before.before.before).args.settings 0 0)) (moded c.before.before.before.before.before.before) c.line.ensures.0 (digits_are c.before.before.before.before) in (
       e ∙ ap text_of (simp append_assoc),
-      (c.line.ensures.1.0, omega (arith, c.line.ensures.1.1, moded-long l, ap length (digits_are h))),
+      (c.line.ensures.1.0, omega (arith, c.line.ensures.1.1, moded-long c.before.before.before.before.before.before, ap length (digits_are c.before.before.before.before))),
     )
 
 pub view_lines_spec : {M : Type 1} → statement M

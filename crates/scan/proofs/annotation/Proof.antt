@@ -17,19 +17,19 @@ use Rattle.scan.proofs.annotation.Tie as tie
 
 -- ---- at the place where the line is one of the sheet: the sheet, and the line's number
 abbrev sheet : tie.Then-n-found → List ℕ
-sheet c = c.before.before.before.before.args.s.now
+sheet c = c.args.s.now
 
 abbrev which : tie.Then-n-found → ℕ
-which c = c.before.before.before.before.args.n
+which c = c.args.n
 
 -- the sheet is whole, and the line lies in it
-found : (c : tie.Then-n-found) → WholeGiven (read_sheet (sheet c)) c.before.before.survey-found.result
+found : (c : tie.Then-n-found) → WholeGiven (read_sheet (sheet c)) c.survey-found.result
 found c =
-    let r = c.before.before.survey-found in
+    let r = c.survey-found in
     whole_given (read_sheet (sheet c)) r.result r.ensures (some_whole (read_sheet (sheet c)) r.result r.ensures (omega arith))
 
 in-range : (c : tie.Then-n-found) → which c < length (fields_in (sheet c)).annotations
-in-range c = let r = c.before.before.survey-found in omega (arith, count_given (read_sheet (sheet c)) r.result r.ensures)
+in-range c = let r = c.survey-found in omega (arith, count_given (read_sheet (sheet c)) r.result r.ensures)
 
 here : (c : tie.Then-n-found) → LineIn (sheet c) (which c)
 here c = line_in (sheet c) (which c) (found c).is_got_lem (in-range c)
@@ -38,11 +38,11 @@ here c = line_in (sheet c) (which c) (found c).is_got_lem (in-range c)
 started : (c : tie.After-annotation_start-from) → c.annotation_start-from.result ≡ tail_from (sheet c.before) + length (lines (take (which c.before) (fields_in (sheet c.before)).annotations))
 started c = c.annotation_start-from.ensures ∙ line_from (sheet c.before) (which c.before) (in-range c.before)
 
-sized : (c : tie.After-struct_known-then-n-found-1) → c.before.annotation_line-line.result.size ≡ length (line (here c.before.before.before).value) + 1
+sized : (c : tie.After-struct_known-then-n-found-1) → c.annotation_line-line.result.size ≡ length (line (here c.before.before.before).value) + 1
 sized c =
-    let p = c.before.before.before in
-    let r = c.before.annotation_line-line in
-    ap (λ (x : Step). x.size) (r.ensures.0 ∙ ap (λ (j : ℕ). step_of (read_annotation (drop j (sheet p)))) (started c.before.before) ∙ ap step_of (here p).read)
+    let p = c in
+    let r = c.annotation_line-line in
+    ap (λ (x : Step). x.size) (r.ensures.0 ∙ ap (λ (j : ℕ). step_of (read_annotation (drop j (sheet c.before.before.before)))) (started c.before.before) ∙ ap step_of (here c.before.before.before).read)
 
 survey-found-requires : tie.Need-survey-found-requires
 survey-found-requires c κs = search rules
@@ -57,12 +57,12 @@ overflow_sub-result : tie.Need-overflow_sub-result
 overflow_sub-result c = omega (arith, sized c)
 
 returns-then-n-found : tie.Need-returns-then-n-found
-returns-then-n-found c = (c.before.before.annotation_start-from.ensures, omega (arith, sized c, ap length (here c.before.before.before).named))
+returns-then-n-found c = (c.annotation_start-from.ensures, omega (arith, sized c, ap length (here c.before.before.before).named))
 
 returns-2 : tie.Need-returns
 returns-2 c =
-    let s = c.before.before.before.before.args.s.now in
-    let z = none_from s c.before.before.before.before.args.n (omega (arith, count_given (read_sheet s) c.before.before.survey-found.result c.before.before.survey-found.ensures)) in
+    let s = c.args.s.now in
+    let z = none_from s c.args.n (omega (arith, count_given (read_sheet s) c.survey-found.result c.survey-found.ensures)) in
     (sym z.0, sym z.1)
 
 pub annotation_spec : {M : Type 1} → statement M

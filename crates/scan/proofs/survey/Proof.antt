@@ -30,7 +30,7 @@ use Rattle.scan.proofs.survey.Tie as tie
 
 -- ---- the places after the deed's line, the pins, the rule with the number of writes, and the writes: each holds the one before
 abbrev deed-of : tie.Else-not-pins → tie.Else-not-deed
-deed-of c = c.before.before.before.before
+deed-of c = c.before.before.before.before.before
 
 abbrev pins-of : tie.Else-not-ruled → tie.Else-not-pins
 pins-of c = c.before.before.before.before
@@ -43,44 +43,44 @@ writes-of c = c.before.before.before.before
 
 -- the sheet, whose length is a number of the machine
 abbrev sheet : tie.Else-not-deed → List ℕ
-sheet c = c.before.before.before.before.before.args.s.now
+sheet c = c.args.s.now
 
 short : (c : tie.Else-not-deed) → length (sheet c) < 2 ^ 64
-short c = let p : tie.After-shared_slice_known-1 = c.before.before.before.before in omega arith
+short c = let p : tie.After-shared_slice_known-1 = c.before.before.before.before.before in omega arith
 
 -- ---- what each line holds, and what is left after it
-deed_at : (c : tie.Else-not-deed) → Field (deed_word ++ eq) deed_byte 1 16 (sheet c) 0 c.before.before.keyed_line-deed.result.size
+deed_at : (c : tie.Else-not-deed) → Field (deed_word ++ eq) deed_byte 1 16 (sheet c) 0 c.keyed_line-deed.result.size
 deed_at c =
-    let r = c.before.before.keyed_line-deed in
-    field (deed_word ++ eq) deed_byte 1 16 45 refl refl (omega arith) (sheet c) 0 r.result r.ensures.0 (not-false _ c.if-not-deed.false)
+    let r = c.keyed_line-deed in
+    field (deed_word ++ eq) deed_byte 1 16 45 refl refl (omega arith) (sheet c) 0 r.result r.ensures.0 (c.if-not-deed.false)
 
 abbrev after-deed : tie.Else-not-deed → Rest read_sheet read_from_pins
 after-deed c = first_passes to_fields read_deed (λ _. read_from_pins) (sheet c) (deed_at c).here
 
-pins-at : (c : tie.Else-not-pins) → HexField (pins_word ++ eq) 2 (sheet (deed-of c)) (after-deed (deed-of c)).at c.before.before.keyed_line-pins.result.size
+pins-at : (c : tie.Else-not-pins) → HexField (pins_word ++ eq) 2 (sheet (deed-of c)) (after-deed (deed-of c)).at c.keyed_line-pins.result.size
 pins-at c =
-    let r = c.before.before.keyed_line-pins in
-    hex_field (pins_word ++ eq) 2 (sheet (deed-of c)) (after-deed (deed-of c)).at r.result r.ensures.0 (not-false _ c.if-not-pins.false)
+    let r = c.keyed_line-pins in
+    hex_field (pins_word ++ eq) 2 (sheet (deed-of c)) (after-deed (deed-of c)).at r.result r.ensures.0 (c.if-not-pins.false)
 
 abbrev after-pins : tie.Else-not-pins → Rest read_sheet read_from_rule
 after-pins c = next_passes read_pins (λ _. read_from_rule) (after-deed (deed-of c)) (pins-at c).here
 
 -- the number of writes
 abbrev many : tie.Else-not-ruled → ℕ
-many c = c.before.before.ruled_count-ruled.result.count
+many c = c.ruled_count-ruled.result.count
 
-rule-at : (c : tie.Else-not-ruled) → (v : Option Rule) × (read_ruled_count (unread (after-pins (pins-of c))) ≡ got (v, many c) c.before.before.ruled_count-ruled.result.size) × (c.before.before.ruled_count-ruled.result.rule ≡ rule_given v)
+rule-at : (c : tie.Else-not-ruled) → (v : Option Rule) × (read_ruled_count (unread (after-pins (pins-of c))) ≡ got (v, many c) c.ruled_count-ruled.result.size) × (c.ruled_count-ruled.result.rule ≡ rule_given v)
 rule-at c =
-    let r = c.before.before.ruled_count-ruled in
-    ruled_count_got (read_ruled_count (unread (after-pins (pins-of c)))) r.result r.ensures.0 (not-false _ c.if-not-ruled.false)
+    let r = c.ruled_count-ruled in
+    ruled_count_got (read_ruled_count (unread (after-pins (pins-of c)))) r.result r.ensures.0 (c.if-not-ruled.false)
 
 abbrev after-rule : (c : tie.Else-not-ruled) → Rest read_sheet (read_from_writes (many c))
 after-rule c = next_passes read_ruled_count (λ ruled. read_from_writes ruled.1) (after-pins (pins-of c)) (rule-at c).1
 
-writes_at : (c : tie.Else-not-lines) → (l : List ℕ) × (read_times read_at (many (rule-of c)) (unread (after-rule (rule-of c))) ≡ got l c.before.before.write_lines-lines.result.size) × (c.before.before.write_lines-lines.result.writes ≡ padded 64 l)
+writes_at : (c : tie.Else-not-lines) → (l : List ℕ) × (read_times read_at (many (rule-of c)) (unread (after-rule (rule-of c))) ≡ got l c.write_lines-lines.result.size) × (c.write_lines-lines.result.writes ≡ padded 64 l)
 writes_at c =
-    let r = c.before.before.write_lines-lines in
-    written_got (read_times read_at (many (rule-of c)) (unread (after-rule (rule-of c)))) r.result r.ensures.0 (not-false _ c.if-not-lines.false)
+    let r = c.write_lines-lines in
+    written_got (read_times read_at (many (rule-of c)) (unread (after-rule (rule-of c)))) r.result r.ensures.0 (c.if-not-lines.false)
 
 abbrev after-writes : tie.Else-not-lines → Rest read_sheet read_annotations
 after-writes c = next_passes (read_times read_at (many (rule-of c))) (λ _. read_annotations) (after-rule (rule-of c)) (writes_at c).1
@@ -93,9 +93,9 @@ broken-requires c κs = search rules
 
 returns-then-not-deed : tie.Need-returns-then-not-deed
 returns-then-not-deed c =
-    let s = c.before.before.before.before.before.before.args.s.now in
-    let r = c.before.before.before.keyed_line-deed in
-    let h = not_whole (read_deed s) r.result r.ensures.0 (not-true _ c.before.if-not-deed.true) in
+    let s = c.args.s.now in
+    let r = c.keyed_line-deed in
+    let h = not_whole (read_deed s) r.result r.ensures.0 (c.if-not-deed.true) in
     c.broken.ensures ∙ sym (ap outline_of (first_sticks to_fields read_deed (λ _. read_from_pins) s h))
 
 keyed_line-pins-requires : tie.Need-keyed_line-pins-requires
@@ -109,10 +109,10 @@ broken-requires-then-not-pins c κs = search rules
 
 returns-then-not-pins : tie.Need-returns-then-not-pins
 returns-then-not-pins c =
-    let p = c.before.before.before.before.before.before in
-    let r = c.before.before.before.before.keyed_line-pins in
-    let h = hex_stuck (pins_word ++ eq) 2 (sheet p) (after-deed p).at r.result r.ensures.0 (not-true _ c.before.before.if-not-pins.true) in
-    c.broken-then-not-pins.ensures ∙ sym (ap outline_of (next_sticks read_pins (λ _. read_from_rule) (after-deed p) h))
+    let p = c in
+    let r = c.keyed_line-pins in
+    let h = hex_stuck (pins_word ++ eq) 2 (sheet c.before.before.before.before.before.before.before) (after-deed c.before.before.before.before.before.before.before).at r.result r.ensures.0 (c.if-not-pins.true) in
+    c.broken-then-not-pins.ensures ∙ sym (ap outline_of (next_sticks read_pins (λ _. read_from_rule) (after-deed c.before.before.before.before.before.before.before) h))
 
 overflow_add-rule_at : tie.Need-overflow_add-rule_at
 overflow_add-rule_at c = search rules
@@ -128,48 +128,48 @@ broken-requires-then-not-ruled c κs = search rules
 
 returns-then-not-ruled : tie.Need-returns-then-not-ruled
 returns-then-not-ruled c =
-    let p = c.before.before.before.before.before.before in
-    let r = c.before.before.before.before.ruled_count-ruled in
-    let h = ruled_count_stuck (read_ruled_count (unread (after-pins p))) r.result r.ensures.0 (not-true _ c.before.before.if-not-ruled.true) in
-    c.broken-then-not-ruled.ensures ∙ sym (ap outline_of (next_sticks read_ruled_count (λ ruled. read_from_writes ruled.1) (after-pins p) h))
+    let p = c in
+    let r = c.ruled_count-ruled in
+    let h = ruled_count_stuck (read_ruled_count (unread (after-pins c.before.before.before.before.before.before))) r.result r.ensures.0 (c.if-not-ruled.true) in
+    c.broken-then-not-ruled.ensures ∙ sym (ap outline_of (next_sticks read_ruled_count (λ ruled. read_from_writes ruled.1) (after-pins c.before.before.before.before.before.before) h))
 
 overflow_add-writes_at : tie.Need-overflow_add-writes_at
 overflow_add-writes_at c = search rules
 
 write_lines-lines-requires : tie.Need-write_lines-lines-requires
-write_lines-lines-requires c κs = (omega (arith, c.before.before.before.ruled_count-ruled.ensures.1), count_most (unread (after-pins (pins-of c.before))) (rule-at c.before).1)
+write_lines-lines-requires c κs = (omega (arith, c.ruled_count-ruled.ensures.1), count_most (unread (after-pins (pins-of c.before))) (rule-at c.before).1)
 
 overflow_add-writes_at-then-not-lines : tie.Need-overflow_add-writes_at-then-not-lines
-overflow_add-writes_at-then-not-lines c = omega (arith, short (deed-of (pins-of c.before.before.before.before.before)), c.before.before.before.write_lines-lines.ensures.1)
+overflow_add-writes_at-then-not-lines c = omega (arith, short (deed-of (pins-of c.before.before.before.before.before)), c.write_lines-lines.ensures.1)
 
 broken-requires-then-not-lines : tie.Need-broken-requires-then-not-lines
 broken-requires-then-not-lines c κs = search rules
 
 returns-then-not-lines : tie.Need-returns-then-not-lines
 returns-then-not-lines c =
-    let p = c.before.before.before.before.before.before in
-    let r = c.before.before.before.before.write_lines-lines in
-    let h = written_stuck (read_times read_at (many p) (unread (after-rule p))) r.result r.ensures.0 (not-true _ c.before.before.if-not-lines.true) in
-    c.broken-then-not-lines.ensures ∙ sym (ap outline_of (next_sticks (read_times read_at (many p)) (λ _. read_annotations) (after-rule p) h))
+    let p = c in
+    let r = c.write_lines-lines in
+    let h = written_stuck (read_times read_at (many c.before.before.before.before.before.before) (unread (after-rule c.before.before.before.before.before.before))) r.result r.ensures.0 (c.if-not-lines.true) in
+    c.broken-then-not-lines.ensures ∙ sym (ap outline_of (next_sticks (read_times read_at (many c.before.before.before.before.before.before)) (λ _. read_annotations) (after-rule c.before.before.before.before.before.before) h))
 
 overflow_add-tail : tie.Need-overflow_add-tail
-overflow_add-tail c = omega (arith, short (deed-of (pins-of (rule-of c.before))), c.before.before.before.write_lines-lines.ensures.1)
+overflow_add-tail c = omega (arith, short (deed-of (pins-of (rule-of c.before))), c.write_lines-lines.ensures.1)
 
 annotation_lines-notes-requires : tie.Need-annotation_lines-notes-requires
 annotation_lines-notes-requires c κs = search rules
 
 overflow_add-tail-then-not-notes : tie.Need-overflow_add-tail-then-not-notes
-overflow_add-tail-then-not-notes c = omega (arith, short (deed-of (pins-of (rule-of c.before.before.before.before.before))), c.before.before.before.annotation_lines-notes.ensures.1)
+overflow_add-tail-then-not-notes c = omega (arith, short (deed-of (pins-of (rule-of c.before.before.before.before.before))), c.annotation_lines-notes.ensures.1)
 
 broken-requires-then-not-notes : tie.Need-broken-requires-then-not-notes
 broken-requires-then-not-notes c κs = search rules
 
 returns-then-not-notes : tie.Need-returns-then-not-notes
 returns-then-not-notes c =
-    let p = c.before.before.before.before.before.before in
-    let r = c.before.before.before.before.annotation_lines-notes in
-    let h = counted_stuck length (read_annotations (unread (after-writes p))) r.result r.ensures.0 (not-true _ c.before.before.if-not-notes.true) in
-    c.broken-then-not-notes.ensures ∙ sym (ap outline_of (rest_read read_annotations (after-writes p) h))
+    let p = c in
+    let r = c.annotation_lines-notes in
+    let h = counted_stuck length (read_annotations (unread (after-writes c.before.before.before.before.before.before))) r.result r.ensures.0 (c.if-not-notes.true) in
+    c.broken-then-not-notes.ensures ∙ sym (ap outline_of (rest_read read_annotations (after-writes c.before.before.before.before.before.before) h))
 
 overflow_sub-result : tie.Need-overflow_sub-result
 overflow_sub-result c = omega (arith, (deed_at (deed-of (pins-of (rule-of (writes-of c.before.before))))).long)
@@ -196,8 +196,8 @@ returns-6 : tie.Need-returns
 returns-6 c =
     let p = writes-of c.before.before.before in
     let q = rule-of p in
-    let r = c.before.before.before.before.before.annotation_lines-notes in
-    let g = counted_got length (read_annotations (unread (after-writes p))) r.result r.ensures.0 (not-false _ c.before.before.before.if-not-notes.false) in
+    let r = c.annotation_lines-notes in
+    let g = counted_got length (read_annotations (unread (after-writes p))) r.result r.ensures.0 (c.if-not-notes.false) in
     outlined (after-writes p) g.1 refl (omega (arith, (deed_at (deed-of (pins-of q))).long)) c.hex_value_lem.ensures (rule-at q).2 (writes_at p).2 (writes_many (many q) (unread (after-rule q)) (writes_at p).1) g.2
 
 pub survey_spec : {M : Type 1} → statement M

@@ -41,15 +41,15 @@ not_fitted-requires c κs = search rules
 
 returns : tie.Need-returns
 returns c =
-    let tall = c.before in
-    let short = tall.before in
-    let font = short.before in
-    let suited = font.before in
-    let long = suited.before in
-    let fast = long.before in
-    let pins = fast.before in
-    let edge = pins.before in
-    let a = edge.before.before.args in
+    let tall = c in
+    let short = c in
+    let font = c in
+    let suited = c in
+    let long = c in
+    let fast = c in
+    let pins = c in
+    let edge = c in
+    let a = edge.args in
     let d = done (border a.settings.look) in
     let order = show_lengths a.settings a.image a.font a.strip a.frame in
     let e : told_of c.not_fitted.result ≡ after_each order d =

@@ -27,7 +27,7 @@ abbrev fetch-of : tie.After-draw-answer → tie.After-fetch
 fetch-of c = c.before.before.before.before
 
 abbrev start_of : tie.After-draw-answer → tie.Start
-start_of c = (fetch-of c).before.before.before.before.before.before.before
+start_of c = c.before.before.before.before.before.before.before.before.before.before.before
 
 fetched-long : (c : tie.After-draw-answer) → let a = (start_of c).args in strip_length a.settings.look ≤ length (strip_after a.settings a.image.now room)
 fetched-long c = let a = (start_of c).args in rw (strip_same_length a.settings a.image.now room) (long a.settings)
@@ -52,11 +52,11 @@ shape_of-frame-then-number-ne0 c = search rules
 
 returns-then-number-ne0 : tie.Need-returns-then-number-ne0
 returns-then-number-ne0 c =
-    let d = c.before.before.before.before in
-    let i = start_of d in
+    let d = c in
+    let i = start_of c.before.before.before.before in
     let a = i.args in
-    shown_kept a.settings a.image.now a.font.now a.strip.now a.frame.now i.requires room (long a.settings) (fetch-of d).fetch.ensures.1.1 d.draw-answer.ensures.0 d.draw-answer.ensures.1
-    (λ z. c.if-number-ne0.true (c.before.number.ensures ∙ z))
+    shown_kept a.settings a.image.now a.font.now a.strip.now a.frame.now i.requires room (long a.settings) (fetch-of c.before.before.before.before).fetch.ensures.1.1 d.draw-answer.ensures.0 d.draw-answer.ensures.1
+    (λ z. c.if-number-ne0.true (c.number.ensures ∙ z))
 
 slice_bounds-store-end : tie.Need-slice_bounds-store-end
 slice_bounds-store-end c = search rules
@@ -75,14 +75,14 @@ shape_of-frame c = search rules
 
 returns-2 : tie.Need-returns
 returns-2 c =
-    let e = c.before.before.before.before.before.before in
-    let d = e.before.before.before.before in
-    let i = start_of d in
+    let e = c in
+    let d = c in
+    let i = start_of c.before.before.before.before.before.before.before.before.before.before in
     let a = i.args in
-    let f = (fetch-of d).fetch.ensures.1.1 in
-    let kept = stored (fetched_byte a.settings a.image.now) (strip_length a.settings.look) (fetch-of d).fetch.new.1.1.0 a.strip.now c.before.before.before.before.strip_length.ensures (omega (arith, ap (λ (x : List ℕ). length x) f, fetched-long d)) (strip_long a.settings a.image.now a.font.now a.strip.now a.frame.now i.requires) (λ k h. ap (λ (x : List ℕ). get_or x k 0) f ∙ fetched_byte_lem a.settings a.image.now a.font.now a.strip.now a.frame.now i.requires room (long a.settings) k h) c.before.before.store.ensures in
+    let f = (fetch-of c.before.before.before.before.before.before.before.before.before.before).fetch.ensures.1.1 in
+    let kept = stored (fetched_byte a.settings a.image.now) (strip_length a.settings.look) (fetch-of c.before.before.before.before.before.before.before.before.before.before).fetch.new.1.1.0 a.strip.now c.strip_length.ensures (omega (arith, ap (λ (x : List ℕ). length x) f, fetched-long c.before.before.before.before.before.before.before.before.before.before)) (strip_long a.settings a.image.now a.font.now a.strip.now a.frame.now i.requires) (λ k h. ap (λ (x : List ℕ). get_or x k 0) f ∙ fetched_byte_lem a.settings a.image.now a.font.now a.strip.now a.frame.now i.requires room (long a.settings) k h) c.store.ensures in
     shown_stored a.settings a.image.now a.font.now a.strip.now a.frame.now i.requires room (long a.settings) f d.draw-answer.ensures.0 d.draw-answer.ensures.1
-    (sym e.before.number.ensures ∙ e.if-number-ne0.false) kept
+    (sym e.number.ensures ∙ e.if-number-ne0.false) kept
 
 pub render_spec : {M : Type 1} → statement M
 render_spec =

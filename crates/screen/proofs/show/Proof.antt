@@ -10,8 +10,8 @@ use Rattle.screen.proofs.show.Tie as tie
 abbrev start_of : tie.After-number → tie.Start
 start_of c = c.before.before.before.before.before.before
 
-passed : (c : tie.Else-number-ne0) → (told_of c.before.before.length_answer-answer.result).number ≡ 0
-passed c = sym c.before.number.ensures ∙ c.if-number-ne0.false
+passed : (c : tie.Else-number-ne0) → (told_of c.length_answer-answer.result).number ≡ 0
+passed c = sym c.number.ensures ∙ c.if-number-ne0.false
 
 length_answer-answer-requires : tie.Need-length_answer-answer-requires
 length_answer-answer-requires c κs = search rules
@@ -22,10 +22,10 @@ number-requires c κs = search rules
 returns-then-number-ne0 : tie.Need-returns-then-number-ne0
 returns-then-number-ne0 c =
     let a = (start_of c.before).args in
-    length_refused a.settings a.image.now a.font.now a.strip.now a.frame.now c.before.before.length_answer-answer.ensures (λ z. c.if-number-ne0.true (c.before.number.ensures ∙ z))
+    length_refused a.settings a.image.now a.font.now a.strip.now a.frame.now c.length_answer-answer.ensures (λ z. c.if-number-ne0.true (c.number.ensures ∙ z))
 
 render-requires : tie.Need-render-requires
-render-requires c κs = rw c.before.before.before.before.length_answer-answer.ensures at (passed c.before.before)
+render-requires c κs = rw c.length_answer-answer.ensures at (passed c.before.before)
 
 shape_of-strip : tie.Need-shape_of-strip
 shape_of-strip c = search rules

@@ -9,7 +9,7 @@ use Rattle.settings.proofs.bank_bit.Statement.{statement}
 use Rattle.settings.proofs.bank_bit.Tie as tie
 
 -- M1, M0 as it was matched
-matched : (c : tie.After-memory) → c.memory.result ≡ memory c.before.args.settings
+matched : (c : tie.After-memory) → c.memory.result ≡ memory c.args.settings
 matched c = c.memory.ensures
 
 memory-requires : tie.Need-memory-requires
@@ -24,7 +24,7 @@ returns-in-1 c = rw (sym (matched c.before) ∙ c.in-1.is)
 returns-in_default : tie.Need-returns-in_default
 returns-in_default c =
     let e = matched c.before in
-    (other_rows (memory c.before.before.args.settings) (mod-lt _ (lit< tt)) (λ z. c.in_default.in_default-own.rest.0.1 (e ∙ z)) (λ z. c.in_default.in_default-own.rest.1 (e ∙ z))).0
+    (other_rows (memory c.args.settings) (mod-lt _ (lit< tt)) (λ z. c.in_default.in_default-own.rest.0.1 (e ∙ z)) (λ z. c.in_default.in_default-own.rest.1 (e ∙ z))).0
 
 pub bank_bit_spec : {M : Type 1} → statement M
 bank_bit_spec = tie.close (tie.spec memory-requires returns-in-0 returns-in-1 returns-in_default)

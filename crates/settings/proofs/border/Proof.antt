@@ -10,11 +10,11 @@ use Rattle.settings.proofs.border.Statement.{statement}
 use Rattle.settings.proofs.border.Tie as tie
 
 -- A/G = 0, and GM2 = 1, past the tests that say so
-in_text : (c : tie.Else-graphics) → graphics c.before.before.args.look ≡ false
-in_text c = rw c.before.graphics.ensures at c.if-graphics.false
+in_text : (c : tie.Else-graphics) → graphics c.args.look ≡ false
+in_text c = rw c.graphics.ensures at c.if-graphics.false
 
-enhanced : (c : tie.Else-field-eq0) → eqb (gm2 c.before.before.before.before.before.args.look) 0 ≡ false
-enhanced c = ne_eqb _ _ (rw c.before.field.ensures at c.if-field-eq0.false)
+enhanced : (c : tie.Else-field-eq0) → eqb (gm2 c.args.look) 0 ≡ false
+enhanced c = ne_eqb _ _ (rw c.field.ensures at c.if-field-eq0.false)
 
 graphics-requires : tie.Need-graphics-requires
 graphics-requires c κs = search rules
@@ -27,7 +27,7 @@ overflow_mul-result c = search rules
 
 returns-then-graphics : tie.Need-returns-then-graphics
 unfolding border
-returns-then-graphics c = simp (rw c.before.before.graphics.ensures at c.before.if-graphics.true, c.css.ensures)
+returns-then-graphics c = simp (rw c.graphics.ensures at c.if-graphics.true, c.css.ensures)
 
 overflow_cast-look : tie.Need-overflow_cast-look
 overflow_cast-look c = search rules
@@ -37,7 +37,7 @@ field-requires c κs = search rules
 
 returns-then-field-eq0 : tie.Need-returns-then-field-eq0
 unfolding border
-returns-then-field-eq0 c = simp (in_text c.before.before.before, eq-eqb _ _ (rw c.before.field.ensures at c.if-field-eq0.true))
+returns-then-field-eq0 c = simp (in_text c.before.before.before, eq-eqb _ _ (rw c.field.ensures at c.if-field-eq0.true))
 
 overflow_cast-look-2 : tie.Need-overflow_cast-look-2
 overflow_cast-look-2 c = search rules
@@ -47,7 +47,7 @@ field-requires-2 c κs = search rules
 
 returns-then-field-eq1 : tie.Need-returns-then-field-eq1
 unfolding border
-returns-then-field-eq1 c = simp (in_text c.before.before.before.before.before.before, enhanced c.before.before.before, eq-eqb _ _ (rw c.before.field-2.ensures at c.if-field-eq1.true))
+returns-then-field-eq1 c = simp (in_text c.before.before.before.before.before.before, enhanced c.before.before.before, eq-eqb _ _ (rw c.field-2.ensures at c.if-field-eq1.true))
 
 css-requires-2 : tie.Need-css-requires-2
 css-requires-2 c κs = search rules
@@ -61,7 +61,7 @@ returns-4 c =
     simp (
       in_text c.before.before.before.before.before.before.before,
       enhanced c.before.before.before.before,
-      ne_eqb _ _ (rw c.before.before.field-2.ensures at c.before.if-field-eq1.false),
+      ne_eqb _ _ (rw c.field-2.ensures at c.if-field-eq1.false),
       c.css-2.ensures,
     )
 

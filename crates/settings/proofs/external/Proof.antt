@@ -13,7 +13,7 @@ field-requires : tie.Need-field-requires
 field-requires c κs = search rules
 
 returns : tie.Need-returns
-returns c = rw (c.before.before.graphics.ensures, c.field.ensures)
+returns c = rw (c.graphics.ensures, c.field.ensures)
 
 pub external_spec : {M : Type 1} → statement M
 external_spec = tie.close (tie.spec graphics-requires overflow_cast-look field-requires returns)

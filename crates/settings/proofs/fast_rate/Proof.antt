@@ -10,7 +10,7 @@ check-requires : tie.Need-check-requires
 check-requires c κs = search rules
 
 returns : tie.Need-returns
-returns c = rw c.before.fast.ensures at c.check.ensures
+returns c = rw c.fast.ensures at c.check.ensures
 
 pub fast_rate_spec : {M : Type 1} → statement M
 fast_rate_spec = tie.close (tie.spec fast-requires check-requires returns)

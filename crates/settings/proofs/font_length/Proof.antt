@@ -13,7 +13,7 @@ check-requires : tie.Need-check-requires
 check-requires c κs = search rules
 
 returns : tie.Need-returns
-returns c = rw (c.before.before.graphics.ensures, c.before.font_size.ensures) at c.check.ensures
+returns c = rw (c.graphics.ensures, c.font_size.ensures) at c.check.ensures
 
 pub font_length_spec : {M : Type 1} → statement M
 font_length_spec = tie.close (tie.spec graphics-requires font_size-requires check-requires returns)

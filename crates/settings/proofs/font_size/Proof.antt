@@ -9,11 +9,11 @@ external-requires c κs = search rules
 
 returns-then-external : tie.Need-returns-then-external
 unfolding font_size
-returns-then-external c = simp (rw c.before.external.ensures at c.if-external.true)
+returns-then-external c = simp (rw c.external.ensures at c.if-external.true)
 
 returns-else-external : tie.Need-returns-else-external
 unfolding font_size
-returns-else-external c = simp (rw c.before.external.ensures at c.if-external.false)
+returns-else-external c = simp (rw c.external.ensures at c.if-external.false)
 
 pub font_size_spec : {M : Type 1} → statement M
 font_size_spec = tie.close (tie.spec external-requires returns-then-external returns-else-external)

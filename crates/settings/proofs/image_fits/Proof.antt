@@ -14,11 +14,11 @@ unfolding image_fits
 returns-in_default c =
     let h = c.in_default.in_default-own.rest.1 in
     simp (
-      ne_eqb c.before.args.length 4096 (λ e. h (inl e)),
-      ne_eqb c.before.args.length 8192 (λ e. h (inr (inl e))),
-      ne_eqb c.before.args.length 16384 (λ e. h (inr (inr (inl e)))),
-      ne_eqb c.before.args.length 32768 (λ e. h (inr (inr (inr (inl e))))),
-      ne_eqb c.before.args.length 65536 (λ e. h (inr (inr (inr (inr e))))),
+      ne_eqb c.args.length 4096 (λ e. h (inl e)),
+      ne_eqb c.args.length 8192 (λ e. h (inr (inl e))),
+      ne_eqb c.args.length 16384 (λ e. h (inr (inr (inl e)))),
+      ne_eqb c.args.length 32768 (λ e. h (inr (inr (inr (inl e))))),
+      ne_eqb c.args.length 65536 (λ e. h (inr (inr (inr (inr e))))),
     )
 
 pub image_fits_spec : {M : Type 1} → statement M

@@ -10,7 +10,7 @@ check-requires : tie.Need-check-requires
 check-requires c κs = search rules
 
 returns : tie.Need-returns
-returns c = rw c.before.image_fits.ensures at c.check.ensures
+returns c = rw c.image_fits.ensures at c.check.ensures
 
 pub image_length_spec : {M : Type 1} → statement M
 image_length_spec = tie.close (tie.spec image_fits-requires check-requires returns)

@@ -18,14 +18,14 @@ bounds-g-then-graphics c = search rules
 
 returns-then-graphics : tie.Need-returns-then-graphics
 unfolding mode_name
-returns-then-graphics c = simp (rw c.before.graphics.ensures at c.if-graphics.true, c.before.before.gm-g.ensures)
+returns-then-graphics c = simp (rw c.graphics.ensures at c.if-graphics.true, c.gm-g.ensures)
 
 external-requires : tie.Need-external-requires
 external-requires c κs = search rules
 
 returns-then-external : tie.Need-returns-then-external
 unfolding mode_name
-returns-then-external c = rw (rw c.before.external.ensures at c.if-external.true) (simp (rw c.before.before.before.graphics.ensures at c.before.before.if-graphics.false))
+returns-then-external c = rw (rw c.external.ensures at c.if-external.true) (simp (rw c.graphics.ensures at c.if-graphics.false))
 
 overflow_cast-result : tie.Need-overflow_cast-result
 overflow_cast-result c = search rules
@@ -35,7 +35,7 @@ overflow_add-result c = search rules
 
 returns-3 : tie.Need-returns
 unfolding mode_name
-returns-3 c = rw (rw c.before.external.ensures at c.if-external.false) (simp (rw c.before.before.before.graphics.ensures at c.before.before.if-graphics.false, c.before.before.before.before.gm-g.ensures))
+returns-3 c = rw (rw c.external.ensures at c.if-external.false) (simp (rw c.graphics.ensures at c.if-graphics.false, c.gm-g.ensures))
 
 pub mode_name_spec : {M : Type 1} → statement M
 mode_name_spec =

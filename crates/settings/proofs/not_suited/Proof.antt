@@ -10,7 +10,7 @@ check-requires : tie.Need-check-requires
 check-requires c κs = search rules
 
 returns : tie.Need-returns
-returns c = rw c.before.suits.ensures at c.check.ensures
+returns c = rw c.suits.ensures at c.check.ensures
 
 pub not_suited_spec : {M : Type 1} → statement M
 not_suited_spec = tie.close (tie.spec suits-requires check-requires returns)

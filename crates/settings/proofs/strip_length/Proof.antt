@@ -9,7 +9,7 @@ width-requires : tie.Need-width-requires
 width-requires c κs = search rules
 
 overflow_mul-result : tie.Need-overflow_mul-result
-overflow_mul-result c = omega (arith, c.width.ensures, width_le c.before.args.look)
+overflow_mul-result c = omega (arith, c.width.ensures, width_le c.args.look)
 
 returns : tie.Need-returns
 returns c = search rules

@@ -10,7 +10,7 @@ bank_bit-bank-requires : tie.Need-bank_bit-bank-requires
 bank_bit-bank-requires c κs = search rules
 
 overflow_shl-bank : tie.Need-overflow_shl-bank
-overflow_shl-bank c = omega (arith, c.bank_bit-bank.ensures, bit_lt c.before.args.settings)
+overflow_shl-bank c = omega (arith, c.bank_bit-bank.ensures, bit_lt c.args.settings)
 
 full_size-requires : tie.Need-full_size-requires
 full_size-requires c κs = search rules
@@ -18,8 +18,8 @@ full_size-requires c κs = search rules
 returns : tie.Need-returns
 unfolding suited
 returns c =
-    let b = c.before in
-    rw (b.bank_bit-bank.ensures, one_shifted b.before.args.settings, c.full_size.ensures)
+    let b = c in
+    rw (b.bank_bit-bank.ensures, one_shifted b.args.settings, c.full_size.ensures)
 
 pub suits_spec : {M : Type 1} → statement M
 suits_spec = tie.close (tie.spec bank_bit-bank-requires overflow_shl-bank full_size-requires returns)

@@ -10,7 +10,7 @@ check-requires : tie.Need-check-requires
 check-requires c κs = search rules
 
 returns : tie.Need-returns
-returns c = rw c.before.graphics.ensures at c.check.ensures
+returns c = rw c.graphics.ensures at c.check.ensures
 
 pub text_back_spec : {M : Type 1} → statement M
 text_back_spec = tie.close (tie.spec graphics-requires check-requires returns)

@@ -18,11 +18,11 @@ bounds-g c = search rules
 
 returns-then-graphics : tie.Need-returns-then-graphics
 unfolding width
-returns-then-graphics c = simp (rw c.before.graphics.ensures at c.if-graphics.true, c.before.before.gm-g.ensures)
+returns-then-graphics c = simp (rw c.graphics.ensures at c.if-graphics.true, c.gm-g.ensures)
 
 returns-else-graphics : tie.Need-returns-else-graphics
 unfolding width
-returns-else-graphics c = simp (rw c.before.graphics.ensures at c.if-graphics.false)
+returns-else-graphics c = simp (rw c.graphics.ensures at c.if-graphics.false)
 
 pub width_spec : {M : Type 1} → statement M
 width_spec =

@@ -11,8 +11,8 @@ use Rattle.sheet.proofs.annotation.Statement.{statement}
 use Rattle.sheet.proofs.annotation.Tie as tie
 
 -- the line lies within the sheet
-inside : (c : tie.After-struct_known-1) → c.before.annotation-found.result.from + c.before.annotation-found.result.size ≤ length c.before.before.before.args.sheet.now
-inside c = let a = c.before.before.before.args in omega (arith, line_within a.sheet.now a.n, c.before.annotation-found.ensures.0, c.before.annotation-found.ensures.1)
+inside : (c : tie.After-struct_known-1) → c.annotation-found.result.from + c.annotation-found.result.size ≤ length c.args.sheet.now
+inside c = let a = c.args in omega (arith, line_within a.sheet.now a.n, c.annotation-found.ensures.0, c.annotation-found.ensures.1)
 
 annotation-found-requires : tie.Need-annotation-found-requires
 annotation-found-requires c κs = search rules
@@ -31,8 +31,8 @@ slice_bounds-result-end c = inside c
 
 returns : tie.Need-returns
 returns c =
-    let a = c.before.before.before.before.args in
-    let r = c.before.before.annotation-found in
+    let a = c.args in
+    let r = c.annotation-found in
     let n : length (line_at (fields_in a.sheet.now).annotations a.n) ≡ r.result.from + r.result.size - r.result.from = omega (arith, r.ensures.1) in
     part_move r.result.from (r.result.from + r.result.size - r.result.from) (annotation_from a.sheet.now a.n) (length (line_at (fields_in a.sheet.now).annotations a.n)) (sym r.ensures.0) n (record { bytes = refl; block = refl; offset = refl })
 

@@ -16,11 +16,11 @@ use Rattle.sheet.proofs.deed.Statement.{statement}
 use Rattle.sheet.proofs.deed.Tie as tie
 
 -- the sheet is whole, and the deed lies within it
-found : (c : tie.After-struct_known-1) → WholeGiven (read_sheet c.before.before.before.before.args.sheet.now) c.before.before.survey-found.result
-found c = whole_given (read_sheet c.before.before.before.before.args.sheet.now) c.before.before.survey-found.result c.before.before.survey-found.ensures c.before.if-found.true
+found : (c : tie.After-struct_known-1) → WholeGiven (read_sheet c.args.sheet.now) c.survey-found.result
+found c = whole_given (read_sheet c.args.sheet.now) c.survey-found.result c.survey-found.ensures c.if-found.true
 
-inside : (c : tie.After-struct_known-1) → 5 + c.before.before.survey-found.result.deed ≤ length c.before.before.before.before.args.sheet.now
-inside c = let g = found c in omega (arith, deed_within c.before.before.before.before.args.sheet.now g.is_got_lem, g.deed)
+inside : (c : tie.After-struct_known-1) → 5 + c.survey-found.result.deed ≤ length c.args.sheet.now
+inside c = let g = found c in omega (arith, deed_within c.args.sheet.now g.is_got_lem, g.deed)
 
 survey-found-requires : tie.Need-survey-found-requires
 survey-found-requires c κs = search rules
@@ -39,18 +39,18 @@ slice_bounds-result-end c = omega (arith, inside c)
 
 returns-then-found : tie.Need-returns-then-found
 returns-then-found c =
-    let s = c.before.before.before.before.before.args.sheet.now in
-    let k = c.before in
-    let g = found k in
-    part_move 5 (5 + c.before.before.before.survey-found.result.deed - 5) (deed_from s) (length (fields_in s).deed) (deed_at s g.is_got_lem) (sym g.deed ∙ omega arith) (record { bytes = refl; block = refl; offset = refl })
+    let s = c.args.sheet.now in
+    let k = c in
+    let g = found c.before in
+    part_move 5 (5 + c.survey-found.result.deed - 5) (deed_from s) (length (fields_in s).deed) (deed_at s g.is_got_lem) (sym g.deed ∙ omega arith) (record { bytes = refl; block = refl; offset = refl })
 
 slice_bounds-result-end-2 : tie.Need-slice_bounds-result-end-2
 slice_bounds-result-end-2 c = search rules
 
 returns-2 : tie.Need-returns
 returns-2 c =
-    let s = c.before.before.before.before.args.sheet.now in
-    let g = broken_given (read_sheet s) c.before.before.survey-found.result c.before.before.survey-found.ensures c.before.if-found.false in
+    let s = c.args.sheet.now in
+    let g = broken_given (read_sheet s) c.survey-found.result c.survey-found.ensures c.if-found.false in
     part_move 0 0 (deed_from s) (length (fields_in s).deed) (ap (λ (t : Bool). choose t 5 0) g.not_got) (sym (ap (λ (f : Fields). length f.deed) g.no_fields)) (record { bytes = refl; block = refl; offset = omega arith })
 
 pub deed_spec : {M : Type 1} → statement M

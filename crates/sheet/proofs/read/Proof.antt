@@ -14,8 +14,8 @@ survey-found-requires c κs = search rules
 
 returns-then-found : tie.Need-returns-then-found
 returns-then-found c =
-    let s = c.before.before.before.before.args.sheet.now in
-    let r = c.before.before.survey-found in
+    let s = c.args.sheet.now in
+    let r = c.survey-found in
     let g = whole_given (read_sheet s) r.result r.ensures c.if-found.true in
     record {
       told = g.told_done;
@@ -28,8 +28,8 @@ returns-then-found c =
 
 returns-2 : tie.Need-returns
 returns-2 c =
-    let s = c.before.before.before.before.args.sheet.now in
-    let r = c.before.before.survey-found in
+    let s = c.args.sheet.now in
+    let r = c.survey-found in
     let g = broken_given (read_sheet s) r.result r.ensures c.if-found.false in
     record {
       told = g.told_broken;

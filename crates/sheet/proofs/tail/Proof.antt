@@ -16,11 +16,11 @@ use Rattle.sheet.proofs.tail.Statement.{statement}
 use Rattle.sheet.proofs.tail.Tie as tie
 
 -- the sheet is whole, and the annotation lines are its end
-found : (c : tie.Then-found) → WholeGiven (read_sheet c.before.before.before.args.sheet.now) c.before.survey-found.result
-found c = whole_given (read_sheet c.before.before.before.args.sheet.now) c.before.survey-found.result c.before.survey-found.ensures c.if-found.true
+found : (c : tie.Then-found) → WholeGiven (read_sheet c.args.sheet.now) c.survey-found.result
+found c = whole_given (read_sheet c.args.sheet.now) c.survey-found.result c.survey-found.ensures c.if-found.true
 
-inside : (c : tie.Then-found) → c.before.survey-found.result.tail ≤ length c.before.before.before.args.sheet.now
-inside c = let g = found c in omega (arith, tail_size c.before.before.before.args.sheet.now g.is_got_lem, tail_at c.before.before.before.args.sheet.now g.is_got_lem, g.tail)
+inside : (c : tie.Then-found) → c.survey-found.result.tail ≤ length c.args.sheet.now
+inside c = let g = found c in omega (arith, tail_size c.args.sheet.now g.is_got_lem, tail_at c.args.sheet.now g.is_got_lem, g.tail)
 
 survey-found-requires : tie.Need-survey-found-requires
 survey-found-requires c κs = search rules
@@ -36,17 +36,17 @@ slice_bounds-result-end c = search rules
 
 returns-then-found : tie.Need-returns-then-found
 returns-then-found c =
-    let s = c.before.before.before.before.args.sheet.now in
+    let s = c.args.sheet.now in
     let g = found c.before in
-    part_move c.before.before.survey-found.result.tail (length s - c.before.before.survey-found.result.tail) (tail_from s) (length (lines (fields_in s).annotations)) (tail_at s g.is_got_lem ∙ sym g.tail) (omega (arith, tail_size s g.is_got_lem, tail_at s g.is_got_lem, g.tail)) (record { bytes = refl; block = refl; offset = refl })
+    part_move c.survey-found.result.tail (length s - c.survey-found.result.tail) (tail_from s) (length (lines (fields_in s).annotations)) (tail_at s g.is_got_lem ∙ sym g.tail) (omega (arith, tail_size s g.is_got_lem, tail_at s g.is_got_lem, g.tail)) (record { bytes = refl; block = refl; offset = refl })
 
 slice_bounds-result-end-2 : tie.Need-slice_bounds-result-end-2
 slice_bounds-result-end-2 c = search rules
 
 returns-2 : tie.Need-returns
 returns-2 c =
-    let s = c.before.before.before.before.args.sheet.now in
-    let g = broken_given (read_sheet s) c.before.before.survey-found.result c.before.before.survey-found.ensures c.before.if-found.false in
+    let s = c.args.sheet.now in
+    let g = broken_given (read_sheet s) c.survey-found.result c.survey-found.ensures c.if-found.false in
     part_move 0 0 (tail_from s) (length (lines (fields_in s).annotations)) (ap (λ (t : Bool). choose t (length (front (fields_in s))) 0) g.not_got) (sym (ap (λ (f : Fields). length (lines f.annotations)) g.no_fields)) (record { bytes = refl; block = refl; offset = omega arith })
 
 pub tail_spec : {M : Type 1} → statement M

@@ -9,8 +9,8 @@ use Rattle.strip.proofs.fetch.Tie as tie
 abbrev start_of : tie.After-number → tie.Start
 start_of c = c.before.before.before.before
 
-passed : (c : tie.Else-number-ne0) → (told_of c.before.before.length_answer-answer.result).number ≡ 0
-passed c = sym c.before.number.ensures ∙ c.if-number-ne0.false
+passed : (c : tie.Else-number-ne0) → (told_of c.length_answer-answer.result).number ≡ 0
+passed c = sym c.number.ensures ∙ c.if-number-ne0.false
 
 length_answer-answer-requires : tie.Need-length_answer-answer-requires
 length_answer-answer-requires c κs = search rules
@@ -21,12 +21,12 @@ number-requires c κs = search rules
 returns-then-number-ne0 : tie.Need-returns-then-number-ne0
 returns-then-number-ne0 c =
     let b = start_of c.before in
-    kept b.args.settings b.args.image.now b.args.strip.now c.before.before.length_answer-answer.ensures (λ z. c.if-number-ne0.true (c.before.number.ensures ∙ z))
+    kept b.args.settings b.args.image.now b.args.strip.now c.length_answer-answer.ensures (λ z. c.if-number-ne0.true (c.number.ensures ∙ z))
 
 all_lines-touched-requires : tie.Need-all_lines-touched-requires
 all_lines-touched-requires c κs =
     let b = start_of c.before.before in
-    let f = all_fits b.args.settings b.args.image.now b.args.strip.now c.before.before.before.length_answer-answer.ensures (passed c.before) in
+    let f = all_fits b.args.settings b.args.image.now b.args.strip.now c.length_answer-answer.ensures (passed c.before) in
     (f.image_suits, f.strip_long, f.banks)
 
 shape_of-strip : tie.Need-shape_of-strip
@@ -34,9 +34,9 @@ shape_of-strip c = search rules
 
 returns-2 : tie.Need-returns
 returns-2 c =
-    let e = c.before.before.before.before in
-    let b = start_of e.before in
-    all_fetched b.args.settings b.args.image.now b.args.strip.now e.before.before.length_answer-answer.ensures (passed e) c.before.before.all_lines-touched.ensures.0 c.before.before.all_lines-touched.ensures.1
+    let e = c in
+    let b = start_of c.before.before.before.before.before in
+    all_fetched b.args.settings b.args.image.now b.args.strip.now e.length_answer-answer.ensures (passed c.before.before.before.before) c.all_lines-touched.ensures.0 c.all_lines-touched.ensures.1
 
 pub fetch_spec : {M : Type 1} → statement M
 fetch_spec =

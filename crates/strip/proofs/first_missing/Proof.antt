@@ -15,7 +15,7 @@ abbrev start_of : tie.After-lacks → tie.After-start-start
 start_of c = c.before
 
 abbrev args_of : tie.After-lacks → tie.Start
-args_of c = (start_of c).before.before
+args_of c = c.before.before.before.before
 
 -- where the window starts
 from_is : (c : tie.After-lacks) → (start_of c).start-start.result.address ≡ offset (args_of c).args.settings * 512
@@ -23,7 +23,7 @@ from_is c = ap (λ (d : Counter). d.address) (start_of c).start-start.ensures �
 
 -- that an image of this length lacks the last bank, and that of the start or not
 last-lacks : (c : tie.Else-not-lacks) → missing (args_of c.before).args.settings (args_of c.before).args.size 65535 ≡ true
-last-lacks c = sym c.before.lacks.ensures ∙ not-false _ c.if-not-lacks.false
+last-lacks c = sym c.lacks.ensures ∙ c.if-not-lacks.false
 
 start-lacks : (c : tie.After-lacks-2) → c.lacks-2.result ≡ missing (args_of c.before.before).args.settings (args_of c.before.before).args.size (offset (args_of c.before.before).args.settings * 512)
 start-lacks c = let a = (args_of c.before.before).args in c.lacks-2.ensures ∙ ap (missing a.settings a.size) (from_is c.before.before)
@@ -33,14 +33,14 @@ abbrev else-of : tie.After-row_lasts → tie.Else-not-lacks
 else-of c = c.before.before.before.before
 
 start_has : (c : tie.After-row_lasts) → missing (args_of (else-of c).before).args.settings (args_of (else-of c).before).args.size (offset (args_of (else-of c).before).args.settings * 512) ≡ false
-start_has c = sym (start-lacks c.before.before.before) ∙ c.before.before.if-lacks.false
+start_has c = sym (start-lacks c.before.before.before) ∙ c.if-lacks.false
 
 -- the first fetch past them
-first_is : (c : tie.After-row_lasts) → let s = (args_of (else-of c).before).args.settings in c.before.rows_left.result * c.row_lasts.result ≡ rows_left s (offset s * 512) * row_lasts s
+first_is : (c : tie.After-row_lasts) → let s = (args_of (else-of c).before).args.settings in c.rows_left.result * c.row_lasts.result ≡ rows_left s (offset s * 512) * row_lasts s
 first_is c =
     let b = (else-of c).before in
     let s = (args_of b).args.settings in
-    ap₂ (λ (m n : ℕ). m * n) (c.before.rows_left.ensures ∙ ap (rows_left s) (from_is b)) c.row_lasts.ensures
+    ap₂ (λ (m n : ℕ). m * n) (c.rows_left.ensures ∙ ap (rows_left s) (from_is b)) c.row_lasts.ensures
 
 strip_length-total-requires : tie.Need-strip_length-total-requires
 strip_length-total-requires c κs = search rules
@@ -53,9 +53,9 @@ lacks-requires c κs = search rules
 
 returns-then-not-lacks : tie.Need-returns-then-not-lacks
 returns-then-not-lacks c =
-    let b = c.before in
-    let a = (args_of b).args in
-    (start_of b).before.strip_length-total.ensures ∙ none_missing a.settings a.size (sym b.lacks.ensures ∙ not-true _ c.if-not-lacks.true)
+    let b = c in
+    let a = (args_of c.before).args in
+    (start_of c.before).strip_length-total.ensures ∙ none_missing a.settings a.size (sym b.lacks.ensures ∙ c.if-not-lacks.true)
 
 lacks-requires-2 : tie.Need-lacks-requires-2
 lacks-requires-2 c κs = search rules
@@ -76,17 +76,17 @@ overflow_mul-first c = rw (first_is c) (omega (arith, first_small (args_of (else
 
 returns-then-first-total : tie.Need-returns-then-first-total
 returns-then-first-total c =
-    let r = c.before in
-    let b = (else-of r).before in
+    let r = c in
+    let b = (else-of c.before).before in
     let a = (args_of b).args in
-    first_is r ∙ found a.settings a.size (last-lacks (else-of r)) (start_has r) (omega (arith, first_is r, (start_of b).before.strip_length-total.ensures, c.if-first-total.true))
+    first_is c.before ∙ found a.settings a.size (last-lacks (else-of c.before)) (start_has c.before) (omega (arith, first_is c.before, (start_of b).strip_length-total.ensures, c.if-first-total.true))
 
 returns-else-first-total : tie.Need-returns-else-first-total
 returns-else-first-total c =
-    let r = c.before in
-    let b = (else-of r).before in
+    let r = c in
+    let b = (else-of c.before).before in
     let a = (args_of b).args in
-    (start_of b).before.strip_length-total.ensures ∙ not_found a.settings a.size (last-lacks (else-of r)) (start_has r) (omega (arith, first_is r, (start_of b).before.strip_length-total.ensures, c.if-first-total.false))
+    (start_of b).strip_length-total.ensures ∙ not_found a.settings a.size (last-lacks (else-of c.before)) (start_has c.before) (omega (arith, first_is c.before, (start_of b).strip_length-total.ensures, c.if-first-total.false))
 
 pub first_missing_spec : {M : Type 1} → statement M
 first_missing_spec =

@@ -34,14 +34,14 @@ not_fitted_at-requires c κs = search rules
 
 returns : tie.Need-returns
 returns c =
-    let missing = c.before in
-    let short = missing.before in
-    let suited = short.before in
-    let long = suited.before in
-    let fast = long.before in
-    let pins = fast.before in
-    let wide = pins.before in
-    let a = wide.before.before.args in
+    let missing = c in
+    let short = c in
+    let suited = c in
+    let long = c in
+    let fast = c in
+    let pins = c in
+    let wide = c in
+    let a = wide.args in
     let d = done (strip_length a.settings.look) in
     let e : told_of c.not_fitted_at.result ≡ after_each (fetch_order a.settings a.image a.strip) d =
     next _ (rw missing.first_missing.ensures at c.not_fitted_at.ensures) (next _ short.short_strip-answer.ensures (next _ suited.not_suited-answer.ensures (next _ long.image_length-answer.ensures (next _ fast.fast_rate-answer.ensures (next _ pins.pins_above-answer.ensures (ap done wide.strip_length.ensures)))))) in

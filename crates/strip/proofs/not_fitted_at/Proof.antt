@@ -10,7 +10,7 @@ check-requires : tie.Need-check-requires
 check-requires c κs = search rules
 
 returns : tie.Need-returns
-returns c = rw c.before.strip_length.ensures at c.check.ensures
+returns c = rw c.strip_length.ensures at c.check.ensures
 
 pub not_fitted_at_spec : {M : Type 1} → statement M
 not_fitted_at_spec = tie.close (tie.spec strip_length-requires check-requires returns)

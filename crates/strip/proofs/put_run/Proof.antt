@@ -21,7 +21,7 @@ overflow_add-strip : tie.Need-overflow_add-strip invariant-loop decreases-loop
 overflow_add-strip c = omega arith
 
 bounds-strip-at : tie.Need-bounds-strip-at invariant-loop decreases-loop
-bounds-strip-at c = omega (arith, c.before.before.loop-j.invariant.1.long)
+bounds-strip-at c = omega (arith, c.loop-j.invariant.1.long)
 
 overflow_add-j : tie.Need-overflow_add-j invariant-loop decreases-loop
 overflow_add-j c = omega arith
@@ -32,15 +32,15 @@ loop-j-smaller c = omega arith
 loop-j-preserved : tie.Need-loop-j-preserved invariant-loop decreases-loop
 loop-j-preserved c = (
   omega arith,
-  step _ _ c.before.before.loop-j.invariant.1 (omega (arith, c.before.before.loop-j.invariant.1.long))
-      (ap (λ (j : ℕ). get_or c.before.before.before.args.run.now j 0) (omega arith)),
+  step _ _ c.loop-j.invariant.1 (omega (arith, c.loop-j.invariant.1.long))
+      (ap (λ (j : ℕ). get_or c.args.run.now j 0) (omega arith)),
 )
 
 shape_of-strip : tie.Need-shape_of-strip invariant-loop decreases-loop
-shape_of-strip c = c.before.loop-j.invariant.1.long
+shape_of-strip c = c.loop-j.invariant.1.long
 
 returns : tie.Need-returns invariant-loop decreases-loop
-returns c = upto (omega arith) c.before.loop-j.invariant.1
+returns c = upto (omega arith) c.loop-j.invariant.1
 
 pub put_run_spec : {M : Type 1} → statement M
 put_run_spec =

@@ -15,8 +15,8 @@ shape_of-strip c = search rules
 
 returns : tie.Need-returns
 returns c =
-    let p = c.before.before.before.before.before in
-    (refl, by (λ k h l. p.run_at-run.ensures.is (k - p.before.before.before.args.at) zero-le (omega arith)) c.before.before.put_run.ensures)
+    let p = c in
+    (refl, by (λ k h l. p.run_at-run.ensures.is (k - p.args.at) zero-le (omega arith)) c.put_run.ensures)
 
 pub read_run_spec : {M : Type 1} → statement M
 read_run_spec = tie.close (tie.spec run_at-run-requires put_run-requires shape_of-strip returns)

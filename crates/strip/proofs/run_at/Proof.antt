@@ -30,10 +30,10 @@ loop-j-smaller : tie.Need-loop-j-smaller invariant-loop decreases-loop
 loop-j-smaller c = omega arith
 
 loop-j-preserved : tie.Need-loop-j-preserved invariant-loop decreases-loop
-loop-j-preserved c = (omega arith, more _ c.before.before.loop-j.invariant.1 (omega arith) (omega (arith, c.before.before.loop-j.invariant.1.long)) refl)
+loop-j-preserved c = (omega arith, more _ c.loop-j.invariant.1 (omega arith) (omega (arith, c.loop-j.invariant.1.long)) refl)
 
 returns : tie.Need-returns invariant-loop decreases-loop
-returns c = upto (omega arith) c.before.loop-j.invariant.1
+returns c = upto (omega arith) c.loop-j.invariant.1
 
 pub run_at_spec : {M : Type 1} → statement M
 run_at_spec =

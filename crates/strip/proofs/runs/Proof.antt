@@ -21,25 +21,25 @@ abbrev start_of : tie.At-loop-touched invariant-loop decreases-loop → tie.Star
 start_of c = c.before.before.before.before
 
 -- a run is left, and there is room for it
-run-left : (c : tie.In-loop-touched invariant-loop decreases-loop) → c.before.loop-touched.touched + 16 ≤ 192 * 32
-run-left c = omega (arith, c.before.loop-touched.invariant.whole, c.loop-touched-test.true)
+run-left : (c : tie.In-loop-touched invariant-loop decreases-loop) → c.loop-touched.touched + 16 ≤ 192 * 32
+run-left c = omega (arith, c.loop-touched.invariant.whole, c.loop-touched-test.true)
 
 room : (c : tie.At-loop-touched invariant-loop decreases-loop) → 192 * 32 ≤ length (start_of c).args.strip.now
 room c = let b = start_of c in subst (λ (w : ℕ). 192 * w ≤ length b.args.strip.now) (not_stretch b.args.settings b.requires.3).0 b.requires.1
 
 -- its bank is fitted
-fitted : (c : tie.In-loop-touched invariant-loop decreases-loop) → let a = (start_of c.before).args in missing a.settings (length a.image.now) c.before.loop-touched.counter.address ≡ false
+fitted : (c : tie.In-loop-touched invariant-loop decreases-loop) → let a = (start_of c.before).args in missing a.settings (length a.image.now) c.loop-touched.counter.address ≡ false
 fitted c =
     let b = start_of c.before in
     let s = b.args.settings in
     let size = length b.args.image.now in
-    ap (λ (d : Counter). missing s size d.address) c.before.loop-touched.invariant.here ∙ run_fitted s b.requires.3 size c.before.loop-touched.touched b.requires.2 c.loop-touched-test.true
+    ap (λ (d : Counter). missing s size d.address) c.loop-touched.invariant.here ∙ run_fitted s b.requires.3 size c.loop-touched.touched b.requires.2 c.loop-touched-test.true
 
 start-counter-requires : tie.Need-start-counter-requires invariant-loop decreases-loop
 start-counter-requires c κs = search rules
 
 loop-touched-init : tie.Need-loop-touched-init invariant-loop decreases-loop
-loop-touched-init c = let b = c.before.before.before in first_run b.args.settings b.requires.3 b.args.image.now c.start-counter.ensures
+loop-touched-init c = let b = c in first_run b.args.settings b.requires.3 b.args.image.now c.start-counter.ensures
 
 overflow_mul-t-8 : tie.Need-overflow_mul-t-8 invariant-loop decreases-loop
 overflow_mul-t-8 c = search rules
@@ -49,42 +49,42 @@ place-from-requires c κs = ((start_of c.before).requires.0, fitted c)
 
 read_run-touched-requires : tie.Need-read_run-touched-requires invariant-loop decreases-loop
 read_run-touched-requires c κs =
-    let t = c.before.before in
-    let b = start_of t.before in
+    let t = c in
+    let b = start_of c.before.before.before in
     let s = b.args.settings in
-    let l = t.before.loop-touched.invariant in
-    let low = run_room s b.requires.3 t.before.loop-touched.touched l.whole in (
-      rw c.before.place-from.ensures (run_within s _ b.requires.0 t.before.loop-touched.counter.address 16 (rw l.here low) (fitted t)),
-      omega (arith, run-left t, room t.before, l.stored.long),
+    let l = t.loop-touched.invariant in
+    let low = run_room s b.requires.3 t.loop-touched.touched l.whole in (
+      rw c.place-from.ensures (run_within s _ b.requires.0 t.loop-touched.counter.address 16 (rw l.here low) (fitted c.before.before)),
+      omega (arith, run-left c.before.before, room c.before.before.before, l.stored.long),
     )
 
 overflow_add-touched : tie.Need-overflow_add-touched invariant-loop decreases-loop
-overflow_add-touched c = let r = c.before.before in omega (arith, r.read_run-touched.ensures.0, run-left r.before.before.before)
+overflow_add-touched c = let r = c in omega (arith, r.read_run-touched.ensures.0, run-left c.before.before.before.before.before)
 
 carry-counter-requires : tie.Need-carry-counter-requires invariant-loop decreases-loop
 carry-counter-requires c κs = search rules
 
 loop-touched-smaller : tie.Need-loop-touched-smaller invariant-loop decreases-loop
-loop-touched-smaller c = let r = c.before.before.before in omega (arith, r.read_run-touched.ensures.0, run-left r.before.before.before)
+loop-touched-smaller c = let r = c in omega (arith, r.read_run-touched.ensures.0, run-left c.before.before.before.before.before.before)
 
 loop-touched-preserved : tie.Need-loop-touched-preserved invariant-loop decreases-loop
 loop-touched-preserved c =
-    let r = c.before.before.before in
-    let p = r.before.before in
-    let t = p.before in
-    let b = start_of t.before in
-    next_run b.args.settings b.requires.3 b.args.image.now t.before.loop-touched.invariant t.loop-touched-test.true p.place-from.ensures r.read_run-touched.ensures.1 c.carry-counter.ensures
-    (ap (λ (n : ℕ). t.before.loop-touched.touched + n) r.read_run-touched.ensures.0)
+    let r = c in
+    let p = c in
+    let t = c in
+    let b = start_of c.before.before.before.before.before.before.before in
+    next_run b.args.settings b.requires.3 b.args.image.now t.loop-touched.invariant t.loop-touched-test.true p.place-from.ensures r.read_run-touched.ensures.1 c.carry-counter.ensures
+    (ap (λ (n : ℕ). t.loop-touched.touched + n) r.read_run-touched.ensures.0)
 
 shape_of-strip : tie.Need-shape_of-strip invariant-loop decreases-loop
-shape_of-strip c = c.before.loop-touched.invariant.stored.long
+shape_of-strip c = c.loop-touched.invariant.stored.long
 
 returns : tie.Need-returns invariant-loop decreases-loop
 returns c =
     let b = start_of c.before in
     let s = b.args.settings in
-    let e : c.before.loop-touched.touched ≡ 192 * 32 = omega (arith, c.before.loop-touched.invariant.within, c.loop-touched-test.false) in
-    (e ∙ sym (runs_count s b.requires.3), upto (e ∙ ap (λ (w : ℕ). 192 * w) (sym (not_stretch s b.requires.3).0)) c.before.loop-touched.invariant.stored)
+    let e : c.loop-touched.touched ≡ 192 * 32 = omega (arith, c.loop-touched.invariant.within, c.loop-touched-test.false) in
+    (e ∙ sym (runs_count s b.requires.3), upto (e ∙ ap (λ (w : ℕ). 192 * w) (sym (not_stretch s b.requires.3).0)) c.loop-touched.invariant.stored)
 
 pub runs_spec : {M : Type 1} → statement M
 runs_spec =

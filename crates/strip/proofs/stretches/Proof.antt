@@ -27,26 +27,26 @@ abbrev lasts-of : tie.At-loop-n invariant-loop decreases-loop → tie.After-line
 lasts-of c = c.before.before.before
 
 abbrev start_of : tie.At-loop-n invariant-loop decreases-loop → tie.Start invariant-loop decreases-loop
-start_of c = (wide_of c).before.before.before
+start_of c = c.before.before.before.before.before.before.before.before
 
 -- this turn's lines lie within the strip, the first before the others
-fits : (c : tie.In-loop-n invariant-loop decreases-loop) → let n = c.before.loop-n.n in let wide = (wide_of c.before).width-wide.result in let lasts = (lasts-of c.before).line_lasts-lasts.result in
+fits : (c : tie.In-loop-n invariant-loop decreases-loop) → let n = c.loop-n.n in let wide = (wide_of c.before).width-wide.result in let lasts = (lasts-of c.before).line_lasts-lasts.result in
     (n * wide + wide ≤ (n + lasts) * wide) × ((n + lasts) * wide ≤ length (start_of c.before).args.strip.now)
 fits c =
     let b = start_of c.before in
-    group_fits b.args.settings c.before.loop-n.n (wide_of c.before).width-wide.ensures (lasts-of c.before).line_lasts-lasts.ensures c.loop-n-test.true c.before.loop-n.invariant.whole b.requires.1
+    group_fits b.args.settings c.loop-n.n (wide_of c.before).width-wide.ensures (lasts-of c.before).line_lasts-lasts.ensures c.loop-n-test.true c.loop-n.invariant.whole b.requires.1
 
 -- W is one run or two
 runs : (c : tie.At-loop-n invariant-loop decreases-loop) → let wide = (wide_of c).width-wide.result in (wide ≡ 16) ⊎ (wide ≡ 32)
 runs c = subst (λ (w : ℕ). (w ≡ 16) ⊎ (w ≡ 32)) (sym (wide_of c).width-wide.ensures) (width_cases (start_of c).args.settings.look)
 
 -- the bank of the stretch is fitted
-fitted : (c : tie.In-loop-n invariant-loop decreases-loop) → let a = (start_of c.before).args in missing a.settings (length a.image.now) c.before.loop-n.address ≡ false
+fitted : (c : tie.In-loop-n invariant-loop decreases-loop) → let a = (start_of c.before).args in missing a.settings (length a.image.now) c.loop-n.address ≡ false
 fitted c =
     let b = start_of c.before in
     let s = b.args.settings in
     let size = length b.args.image.now in
-    ap (missing s size) c.before.loop-n.invariant.here ∙ stretch_fitted s b.requires.3 size c.before.loop-n.n b.requires.2 c.loop-n-test.true
+    ap (missing s size) c.loop-n.invariant.here ∙ stretch_fitted s b.requires.3 size c.loop-n.n b.requires.2 c.loop-n-test.true
 
 width-wide-requires : tie.Need-width-wide-requires invariant-loop decreases-loop
 width-wide-requires c κs = search rules
@@ -62,7 +62,7 @@ start-start-requires c κs = search rules
 
 loop-n-init : tie.Need-loop-n-init invariant-loop decreases-loop
 loop-n-init c =
-    let b = c.before.before.before.before.before.before in
+    let b = c in
     first_stretch b.args.settings b.requires.3 b.args.image.now c.start-start.ensures
 
 place-from-requires : tie.Need-place-from-requires invariant-loop decreases-loop
@@ -73,29 +73,29 @@ overflow_mul-n c = omega (arith, fits c.before.before)
 
 read_line-touched-requires : tie.Need-read_line-touched-requires invariant-loop decreases-loop
 read_line-touched-requires c κs =
-    let t = c.before.before in
-    let b = start_of t.before in
+    let t = c in
+    let b = start_of c.before.before.before in
     let s = b.args.settings in
-    let l = t.before.loop-n.invariant in
-    let room = subst (λ (a : ℕ). a % 32 + width s.look ≤ 32) (sym l.here) (stretch_room s b.requires.3 t.before.loop-n.n) in
-    let inside = run_within s _ b.requires.0 t.before.loop-n.address (width s.look) room (fitted t) in (
-      omega (arith, inside, c.before.place-from.ensures, (wide_of t.before).width-wide.ensures),
-      omega (arith, fits t, l.stored.long),
-      runs t.before,
+    let l = t.loop-n.invariant in
+    let room = subst (λ (a : ℕ). a % 32 + width s.look ≤ 32) (sym l.here) (stretch_room s b.requires.3 t.loop-n.n) in
+    let inside = run_within s _ b.requires.0 t.loop-n.address (width s.look) room (fitted c.before.before) in (
+      omega (arith, inside, c.place-from.ensures, (wide_of c.before.before.before).width-wide.ensures),
+      omega (arith, fits c.before.before, l.stored.long),
+      runs c.before.before.before,
     )
 
 -- what was read, and one line more
-read-so-far : (c : tie.In-loop-n invariant-loop decreases-loop) → c.before.loop-n.touched ≤ 32 * 192
+read-so-far : (c : tie.In-loop-n invariant-loop decreases-loop) → c.loop-n.touched ≤ 32 * 192
 read-so-far c =
     let s = (start_of c.before).args.settings in
-    let l = c.before.loop-n.invariant in
-    subst (λ (m : ℕ). m ≤ 32 * 192) (sym l.read) (read_small s c.before.loop-n.n l.within)
+    let l = c.loop-n.invariant in
+    subst (λ (m : ℕ). m ≤ 32 * 192) (sym l.read) (read_small s c.loop-n.n l.within)
 
 overflow_add-touched : tie.Need-overflow_add-touched invariant-loop decreases-loop
 overflow_add-touched c =
-    let r = c.before.before in
-    let t = r.before.before.before in
-    omega (arith, r.read_line-touched.ensures.0, read-so-far t, (wide_of t.before).width-wide.ensures, width_le (start_of t.before).args.settings.look)
+    let r = c in
+    let t = c in
+    omega (arith, r.read_line-touched.ensures.0, read-so-far c.before.before.before.before.before, (wide_of c.before.before.before.before.before.before).width-wide.ensures, width_le (start_of c.before.before.before.before.before.before).args.settings.look)
 
 -- where the others are made from
 abbrev turn-of : tie.After-repeat_line-arg-1 invariant-loop decreases-loop → tie.In-loop-n invariant-loop decreases-loop
@@ -121,7 +121,7 @@ repeat_line-requires c κs =
       mul-mod_left n wide,
       mul-mod_left (n + (lasts-of t.before).line_lasts-lasts.result) wide,
       (fits t).0,
-      omega (arith, fits t, t.before.loop-n.inv.stored.long, c.before.before.before.read_line-touched.ensures.1.long),
+      omega (arith, fits t, t.before.loop-n.inv.stored.long, c.read_line-touched.ensures.1.long),
     )
 
 wrapping_add_u16-address-requires : tie.Need-wrapping_add_u16-address-requires invariant-loop decreases-loop
@@ -151,13 +151,13 @@ loop-n-preserved c =
     t.before.loop-n.inv t.loop-n-test.taken r.read_line-touched.ensures.1 m.repeat_line.ensures c.wrapping_add_u16-address.ensures (ap (λ (k : ℕ). t.before.loop-n.touched + k) r.read_line-touched.ensures.0)
 
 shape_of-strip : tie.Need-shape_of-strip invariant-loop decreases-loop
-shape_of-strip c = c.before.loop-n.invariant.stored.long
+shape_of-strip c = c.loop-n.invariant.stored.long
 
 returns : tie.Need-returns invariant-loop decreases-loop
 returns c =
     let s = (start_of c.before).args.settings in
-    let l = c.before.loop-n.invariant in
-    let e : c.before.loop-n.n ≡ 192 = omega (arith, l.within, c.loop-n-test.false) in
+    let l = c.loop-n.invariant in
+    let e : c.loop-n.n ≡ 192 = omega (arith, l.within, c.loop-n-test.false) in
     (l.read ∙ ap (λ (n : ℕ). width s.look * (n / line_lasts s)) e ∙ sym (touched_count s), upto (ap (λ (n : ℕ). n * width s.look) e) l.stored)
 
 pub stretches_spec : {M : Type 1} → statement M

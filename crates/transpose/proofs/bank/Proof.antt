@@ -25,8 +25,8 @@ loop-column-init c = (omega arith, refl, start _)
 columns-requires : tie.Need-columns-requires invariant-loop decreases-loop
 columns-requires c κs =
     let a = start_of c.before in
-    let l = c.before.before.loop-column in
-    ((a.requires.0.0, omega (arith, a.requires.0.1, l.invariant.1, c.before.loop-column-test.true)), (a.requires.1.0, a.requires.1.1, omega (arith, a.requires.1.2, l.invariant.2.long)))
+    let l = c.loop-column in
+    ((a.requires.0.0, omega (arith, a.requires.0.1, l.invariant.1, c.loop-column-test.true)), (a.requires.1.0, a.requires.1.1, omega (arith, a.requires.1.2, l.invariant.2.long)))
 
 overflow_add-column : tie.Need-overflow_add-column invariant-loop decreases-loop
 overflow_add-column c = omega arith
@@ -37,15 +37,15 @@ loop-column-smaller c = omega arith
 loop-column-preserved : tie.Need-loop-column-preserved invariant-loop decreases-loop
 loop-column-preserved c =
     let a = start_of c.before.before.before.before in
-    let l = c.before.before.before.before.before.loop-column in
-    let t = c.before.before.before.before.loop-column-test.true in
-    (omega (arith, a.requires.0.1, l.invariant.1, t), omega (arith, l.invariant.1), columns_more (c.before.before.columns.ensures a.args.room.now l.invariant.2))
+    let l = c.loop-column in
+    let t = c.loop-column-test.true in
+    (omega (arith, a.requires.0.1, l.invariant.1, t), omega (arith, l.invariant.1), columns_more (c.columns.ensures a.args.room.now l.invariant.2))
 
 shape_of-room : tie.Need-shape_of-room invariant-loop decreases-loop
-shape_of-room c = c.before.loop-column.invariant.2.long
+shape_of-room c = c.loop-column.invariant.2.long
 
 returns : tie.Need-returns invariant-loop decreases-loop
-returns c = bank_filled c.before.before.before.before.requires.0.2 c.loop-column-test.false c.before.loop-column.invariant.2
+returns c = bank_filled c.requires.0.2 c.loop-column-test.false c.loop-column.invariant.2
 
 pub bank_spec : {M : Type 1} → statement M
 bank_spec = tie.close (tie.spec invariant-loop decreases-loop loop-column-init columns-requires overflow_add-column loop-column-smaller loop-column-preserved shape_of-room returns)

@@ -23,21 +23,21 @@ abbrev start_of : tie.In-loop-base invariant-loop decreases-loop → tie.Start i
 start_of c = c.before.before.before.before
 
 -- the bank of this turn is lent whole
-fits : (c : tie.In-loop-base invariant-loop decreases-loop) → c.before.loop-base.base + (start_of c).args.side * (start_of c).args.side ≤ length (start_of c).args.lent.now
+fits : (c : tie.In-loop-base invariant-loop decreases-loop) → c.loop-base.base + (start_of c).args.side * (start_of c).args.side ≤ length (start_of c).args.lent.now
 fits c =
     let a = start_of c in
-    bank_within (a.args.side * a.args.side) c.before.loop-base.base c.before.loop-base.invariant.1 a.requires.1.0 c.loop-base-test.true
+    bank_within (a.args.side * a.args.side) c.loop-base.base c.loop-base.invariant.1 a.requires.1.0 c.loop-base-test.true
 
 overflow_mul-size : tie.Need-overflow_mul-size invariant-loop decreases-loop
-overflow_mul-size c = let a = c.before.before in omega (arith, mul-le-mul_right a.args.side a.requires.0.0, a.requires.0.0)
+overflow_mul-size c = let a = c in omega (arith, mul-le-mul_right a.args.side a.requires.0.0, a.requires.0.0)
 
 loop-base-init : tie.Need-loop-base-init invariant-loop decreases-loop
-loop-base-init c = let some = c.before.before.requires.0.2 in (omega arith, mod-eq_of_lt (mul-pos some some), none _ _ _)
+loop-base-init c = let some = c.requires.0.2 in (omega arith, mod-eq_of_lt (mul-pos some some), none _ _ _)
 
 bank-requires : tie.Need-bank-requires invariant-loop decreases-loop
 bank-requires c κs =
     let a = start_of c.before in
-    let l = c.before.before.loop-base in
+    let l = c.loop-base in
     (a.requires.0, (l.invariant.1, fits c.before, omega (arith, fits c.before, a.requires.1.1, l.invariant.2.long)))
 
 overflow_add-base : tie.Need-overflow_add-base invariant-loop decreases-loop
@@ -51,14 +51,14 @@ loop-base-smaller c =
 loop-base-preserved : tie.Need-loop-base-preserved invariant-loop decreases-loop
 loop-base-preserved c =
     let a = (start_of c.before.before.before.before).args in
-    let l = c.before.before.before.before.before.loop-base in
-    (fits c.before.before.before.before, bank_next (a.side * a.side) l.base l.invariant.1, join (omega arith) (omega arith) l.invariant.2 c.before.before.bank.ensures)
+    let l = c.loop-base in
+    (fits c.before.before.before.before, bank_next (a.side * a.side) l.base l.invariant.1, join (omega arith) (omega arith) l.invariant.2 c.bank.ensures)
 
 shape_of-room : tie.Need-shape_of-room invariant-loop decreases-loop
-shape_of-room c = c.before.loop-base.invariant.2.long
+shape_of-room c = c.loop-base.invariant.2.long
 
 returns : tie.Need-returns invariant-loop decreases-loop
-returns c = upto (omega (arith, c.loop-base-test.false, c.before.loop-base.invariant.0)) c.before.loop-base.invariant.2
+returns c = upto (omega (arith, c.loop-base-test.false, c.loop-base.invariant.0)) c.loop-base.invariant.2
 
 pub banks_spec : {M : Type 1} → statement M
 banks_spec = tie.close (tie.spec invariant-loop decreases-loop overflow_mul-size loop-base-init bank-requires overflow_add-base loop-base-smaller loop-base-preserved shape_of-room returns)

@@ -20,7 +20,7 @@ check-answer-requires-2 c κs = search rules
 returns : tie.Need-returns
 unfolding chip_told
 returns c =
-    let a = c.before.before.before.args in
+    let a = c.args in
     let e : told_of c.check-answer-2.result ≡ after_each (chip_order a.k a.lent a.room) (done 0) = cc in
     e ∙ in_order (done 0) refl (chip_order a.k a.lent a.room) tt
 

@@ -35,8 +35,8 @@ within side column row wide below = record {
 abbrev start_of : tie.In-loop-row invariant-loop decreases-loop → tie.Start invariant-loop decreases-loop
 start_of c = c.before.before.before.before
 
-here : (c : tie.In-loop-row invariant-loop decreases-loop) → Within (start_of c).args.side (start_of c).args.column c.before.loop-row.row
-here c = let a = start_of c in within a.args.side a.args.column c.before.loop-row.row a.requires.0.1 c.loop-row-test.true
+here : (c : tie.In-loop-row invariant-loop decreases-loop) → Within (start_of c).args.side (start_of c).args.column c.loop-row.row
+here c = let a = start_of c in within a.args.side a.args.column c.loop-row.row a.requires.0.1 c.loop-row-test.true
 
 loop-row-init : tie.Need-loop-row-init invariant-loop decreases-loop
 loop-row-init c = (omega arith, refl, λ old x. x)
@@ -62,7 +62,7 @@ overflow_add-at-in-loop-row c = omega (arith, (here c).piece, (start_of c).requi
 piece-requires : tie.Need-piece-requires invariant-loop decreases-loop
 piece-requires c κs =
     let a = start_of c.before in
-    (a.requires.0.0, omega (arith, (here c.before).last, a.requires.1), omega (arith, (here c.before).piece, a.requires.1, c.before.before.loop-row.invariant.1))
+    (a.requires.0.0, omega (arith, (here c.before).last, a.requires.1), omega (arith, (here c.before).piece, a.requires.1, c.loop-row.invariant.1))
 
 overflow_add-row : tie.Need-overflow_add-row invariant-loop decreases-loop
 overflow_add-row c = omega arith
@@ -73,9 +73,9 @@ loop-row-smaller c = omega arith
 loop-row-preserved : tie.Need-loop-row-preserved invariant-loop decreases-loop
 loop-row-preserved c =
     let a = start_of c.before.before.before.before in
-    let l = c.before.before.before.before.before.loop-row in
-    let f = c.before.before.piece.ensures in
-    let below : l.row < a.args.side = c.before.before.before.before.loop-row-test.true in
+    let l = c.loop-row in
+    let f = c.piece.ensures in
+    let below : l.row < a.args.side = c.loop-row-test.true in
     let some : 0 < a.args.side = omega arith in (
       omega arith,
       f.long ∙ l.invariant.1,
@@ -83,12 +83,12 @@ loop-row-preserved c =
     )
 
 shape_of-room : tie.Need-shape_of-room invariant-loop decreases-loop
-shape_of-room c = c.before.loop-row.invariant.1
+shape_of-room c = c.loop-row.invariant.1
 
 returns : tie.Need-returns invariant-loop decreases-loop
 returns c =
-    let a = c.before.before.before.before in
-    let l = c.before.loop-row in
+    let a = c in
+    let l = c.loop-row in
     let all : l.row ≡ a.args.side = omega arith in
     rw all at l.invariant.2
 

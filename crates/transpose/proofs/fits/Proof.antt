@@ -15,7 +15,7 @@ returns-in-8 c = rw c.in-8.is
 returns-in_default : tie.Need-returns-in_default
 returns-in_default c =
     let h = c.in_default.in_default-own.rest in
-    simp (ne_eqb c.before.args.k 6 h.0.0.1, ne_eqb c.before.args.k 7 h.0.1, ne_eqb c.before.args.k 8 h.1)
+    simp (ne_eqb c.args.k 6 h.0.0.1, ne_eqb c.args.k 7 h.0.1, ne_eqb c.args.k 8 h.1)
 
 pub fits_spec : {M : Type 1} → statement M
 fits_spec = tie.close (tie.spec returns-in-6 returns-in-7 returns-in-8 returns-in_default)

@@ -16,8 +16,8 @@ abbrev decreases-loop : tie.decreases-loop-i
 decreases-loop lent from side room₀ at i₀ room i = 64 - i
 
 -- the byte of this turn lies no further than the last
-far : (c : tie.In-loop-i invariant-loop decreases-loop) → c.before.loop-i.i * c.before.before.args.side ≤ 63 * c.before.before.args.side
-far c = mul-le-mul_right c.before.before.args.side (omega arith)
+far : (c : tie.In-loop-i invariant-loop decreases-loop) → c.loop-i.i * c.args.side ≤ 63 * c.args.side
+far c = mul-le-mul_right c.args.side (omega arith)
 
 loop-i-init : tie.Need-loop-i-init invariant-loop decreases-loop
 loop-i-init c = (omega arith, upto (omega arith) (none _ _ _))
@@ -35,7 +35,7 @@ overflow_add-room-in-loop-i : tie.Need-overflow_add-room-in-loop-i invariant-loo
 overflow_add-room-in-loop-i c = omega arith
 
 bounds-room-at : tie.Need-bounds-room-at invariant-loop decreases-loop
-bounds-room-at c = omega (arith, c.before.before.loop-i.invariant.1.long)
+bounds-room-at c = omega (arith, c.loop-i.invariant.1.long)
 
 overflow_add-i : tie.Need-overflow_add-i invariant-loop decreases-loop
 overflow_add-i c = omega arith
@@ -45,17 +45,17 @@ loop-i-smaller c = omega arith
 
 loop-i-preserved : tie.Need-loop-i-preserved invariant-loop decreases-loop
 loop-i-preserved c =
-    let a = c.before.before.before.args in (
+    let a = c.args in (
       omega arith,
-      step _ _ c.before.before.loop-i.invariant.1 (omega (arith, c.before.before.loop-i.invariant.1.long))
+      step _ _ c.loop-i.invariant.1 (omega (arith, c.loop-i.invariant.1.long))
           (ap (λ (j : ℕ). get_or a.lent.now (a.from + j * a.side) 0) (omega arith)),
     )
 
 shape_of-room : tie.Need-shape_of-room invariant-loop decreases-loop
-shape_of-room c = c.before.loop-i.invariant.1.long
+shape_of-room c = c.loop-i.invariant.1.long
 
 returns : tie.Need-returns invariant-loop decreases-loop
-returns c = upto (omega arith) c.before.loop-i.invariant.1
+returns c = upto (omega arith) c.loop-i.invariant.1
 
 pub piece_spec : {M : Type 1} → statement M
 piece_spec =

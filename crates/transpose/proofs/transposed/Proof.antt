@@ -18,7 +18,7 @@ abbrev start_of : tie.After-number → tie.Start
 start_of c = c.before.before.before.before
 
 passed : (c : tie.Else-number-ne0) → let a = (start_of c.before).args in (chip_told a.k (length a.lent.now) (length a.room.now)).number ≡ 0
-passed c = rw c.before.before.chip_answer-answer.ensures at (sym c.before.number.ensures ∙ c.if-number-ne0.false)
+passed c = rw c.chip_answer-answer.ensures at (sym c.number.ensures ∙ c.if-number-ne0.false)
 
 suits : (c : tie.Else-number-ne0) → let a = (start_of c.before).args in (chip_fits a.k (length a.lent.now) ≡ true) × (length a.lent.now ≤ length a.room.now)
 suits c = let a = (start_of c.before).args in accepted a.k (length a.lent.now) (length a.room.now) (passed c)
@@ -32,8 +32,8 @@ number-requires c κs = search rules
 returns-then-number-ne0 : tie.Need-returns-then-number-ne0
 returns-then-number-ne0 c =
     let a = (start_of c.before).args in
-    let e = c.before.before.chip_answer-answer.ensures in
-    (e, sym (room_refused a.k a.lent.now a.room.now (λ z. c.if-number-ne0.true (c.before.number.ensures ∙ (rw e z)))))
+    let e = c.chip_answer-answer.ensures in
+    (e, sym (room_refused a.k a.lent.now a.room.now (λ z. c.if-number-ne0.true (c.number.ensures ∙ (rw e z)))))
 
 overflow_shl-side : tie.Need-overflow_shl-side
 overflow_shl-side c = let a = (start_of c.before).args in omega (arith, (shape a.k (length a.lent.now) (suits c).0).0)
@@ -50,12 +50,12 @@ shape_of-room c = search rules
 
 returns-2 : tie.Need-returns
 returns-2 c =
-    let b = c.before.before.before.before in
-    let a = (start_of b.before).args in
+    let b = c in
+    let a = (start_of c.before.before.before.before.before).args in
     let n = length a.lent.now in
-    let side = side_is a.k n (suits b).0 in
-    let f = subst (λ (s : ℕ). Filled (transposed_byte s a.lent.now) 0 n a.room.now c.before.before.banks.new.1.1.0) side c.before.before.banks.ensures in
-    (b.before.before.chip_answer-answer.ensures, filled_written (suits b).1 f ∙ sym (room_done a.k a.lent.now a.room.now (passed b)))
+    let side = side_is a.k n (suits c.before.before.before.before).0 in
+    let f = subst (λ (s : ℕ). Filled (transposed_byte s a.lent.now) 0 n a.room.now c.banks.new.1.1.0) side c.banks.ensures in
+    (b.chip_answer-answer.ensures, filled_written (suits c.before.before.before.before).1 f ∙ sym (room_done a.k a.lent.now a.room.now (passed c.before.before.before.before)))
 
 pub transposed_spec : {M : Type 1} → statement M
 transposed_spec =

@@ -14,7 +14,7 @@ returns-then-i-s : tie.Need-returns-then-i-s
 returns-then-i-s c = search rules
 
 returns-else-i-s : tie.Need-returns-else-i-s
-returns-else-i-s c = sym (get_or-eq_default c.before.before.args.s.now 0 {n = c.before.before.args.i} (omega arith))
+returns-else-i-s c = sym (get_or-eq_default c.args.s.now 0 {n = c.args.i} (omega arith))
 
 pub byte_at_spec : {M : Type 1} → statement M
 byte_at_spec =

@@ -8,10 +8,10 @@ least-end-requires : tie.Need-least-end-requires
 least-end-requires c κs = search rules
 
 slice_bounds-result-end : tie.Need-slice_bounds-result-end
-slice_bounds-result-end c = omega (arith, c.before.least-end.ensures, length-take c.before.least-end.result c.before.before.before.args.s.now)
+slice_bounds-result-end c = omega (arith, c.least-end.ensures, length-take c.least-end.result c.args.s.now)
 
 returns : tie.Need-returns
-returns c = part_move 0 c.before.least-end.result 0 (min c.before.before.before.args.n (length c.before.before.before.args.s.now)) refl (omega (arith, c.before.least-end.ensures)) record { bytes = refl; block = refl; offset = omega arith }
+returns c = part_move 0 c.least-end.result 0 (min c.args.n (length c.args.s.now)) refl (omega (arith, c.least-end.ensures)) record { bytes = refl; block = refl; offset = omega arith }
 
 pub cut_spec : {M : Type 1} → statement M
 cut_spec = tie.close (tie.spec least-end-requires slice_bounds-result-end returns)

@@ -19,7 +19,7 @@ laid-requires : tie.Need-laid-requires invariant-loop decreases-loop
 laid-requires c κs = search rules
 
 bounds-s-i : tie.Need-bounds-s-i invariant-loop decreases-loop
-bounds-s-i c = omega (arith, c.before.before.loop-i.invariant.1.long)
+bounds-s-i c = omega (arith, c.loop-i.invariant.1.long)
 
 overflow_add-i : tie.Need-overflow_add-i invariant-loop decreases-loop
 overflow_add-i c = omega arith
@@ -29,14 +29,14 @@ loop-i-smaller c = omega arith
 
 loop-i-preserved : tie.Need-loop-i-preserved invariant-loop decreases-loop
 loop-i-preserved c =
-    let v = c.before.before.loop-i.invariant in
+    let v = c.loop-i.invariant in
     (omega (arith, v.1.long), more _ v.1 zero-le (omega (arith, v.1.long)) c.laid.ensures)
 
 shape_of-s : tie.Need-shape_of-s invariant-loop decreases-loop
-shape_of-s c = c.before.loop-i.invariant.1.long
+shape_of-s c = c.loop-i.invariant.1.long
 
 returns : tie.Need-returns invariant-loop decreases-loop
-returns c = filled_written (omega arith) (upto (omega (arith, c.before.loop-i.invariant.1.long)) c.before.loop-i.invariant.1)
+returns c = filled_written (omega arith) (upto (omega (arith, c.loop-i.invariant.1.long)) c.loop-i.invariant.1)
 
 pub lay_spec : {M : Type 1} → statement M
 lay_spec =

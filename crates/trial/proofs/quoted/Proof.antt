@@ -4,10 +4,10 @@ use Rattle.trial.proofs.quoted.Statement.{statement}
 use Rattle.trial.proofs.quoted.Tie as tie
 
 abbrev invariant-loop : tie.invariant-loop-i
-invariant-loop s i₀ t4 i = i ≤ length s
+invariant-loop s i₀ i = i ≤ length s
 
 abbrev decreases-loop : tie.decreases-loop-i
-decreases-loop s i₀ t4 i = length s - i
+decreases-loop s i₀ i = length s - i
 
 say-requires : tie.Need-say-requires invariant-loop decreases-loop
 say-requires c κs = search rules

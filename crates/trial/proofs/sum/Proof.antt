@@ -28,10 +28,10 @@ loop-i-smaller c = omega arith
 
 loop-i-preserved : tie.Need-loop-i-preserved invariant-loop decreases-loop
 loop-i-preserved c =
-    (omega arith, omega (arith, c.next_sum-n.ensures), c.next_sum-n.ensures ∙ sum_more _ _ _ c.before.before.before.loop-i.invariant.2)
+    (omega arith, omega (arith, c.next_sum-n.ensures), c.next_sum-n.ensures ∙ sum_more _ _ _ c.loop-i.invariant.2)
 
 returns : tie.Need-returns invariant-loop decreases-loop
-returns c = c.before.loop-i.invariant.2 ∙ ap (sum_to _) (omega arith)
+returns c = c.loop-i.invariant.2 ∙ ap (sum_to _) (omega arith)
 
 pub sum_spec : {M : Type 1} → statement M
 sum_spec =

@@ -27,10 +27,10 @@ loop-i-smaller : tie.Need-loop-i-smaller invariant-loop decreases-loop
 loop-i-smaller c = omega arith
 
 loop-i-preserved : tie.Need-loop-i-preserved invariant-loop decreases-loop
-loop-i-preserved c = (omega arith, c.unchanged_past-from.ensures ∙ unchanged_more _ _ _ c.before.before.before.loop-i.invariant.1)
+loop-i-preserved c = (omega arith, c.unchanged_past-from.ensures ∙ unchanged_more _ _ _ c.loop-i.invariant.1)
 
 returns : tie.Need-returns invariant-loop decreases-loop
-returns c = c.before.loop-i.invariant.1 ∙ ap (unchanged_to _) (omega arith)
+returns c = c.loop-i.invariant.1 ∙ ap (unchanged_to _) (omega arith)
 
 pub unchanged_from_spec : {M : Type 1} → statement M
 unchanged_from_spec =

@@ -7,13 +7,13 @@ laid-requires : tie.Need-laid-requires
 laid-requires c κs = search rules
 
 returns-then-b-laid : tie.Need-returns-then-b-laid
-returns-then-b-laid c = simp (eq-eqb _ _ (c.if-b-laid.true ∙ c.before.laid.ensures))
+returns-then-b-laid c = simp (eq-eqb _ _ (c.if-b-laid.true ∙ c.laid.ensures))
 
 overflow_add-result : tie.Need-overflow_add-result
 overflow_add-result c = search rules
 
 returns-2 : tie.Need-returns
-returns-2 c = simp (ne_eqb _ _ (λ e. c.if-b-laid.false (e ∙ sym c.before.laid.ensures)))
+returns-2 c = simp (ne_eqb _ _ (λ e. c.if-b-laid.false (e ∙ sym c.laid.ensures)))
 
 pub unchanged_past_spec : {M : Type 1} → statement M
 unchanged_past_spec = tie.close (tie.spec laid-requires returns-then-b-laid overflow_add-result returns-2)

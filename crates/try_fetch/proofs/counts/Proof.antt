@@ -5,10 +5,10 @@ use Rattle.try_fetch.proofs.counts.Statement.{statement}
 use Rattle.try_fetch.proofs.counts.Tie as tie
 
 abbrev invariant-loop : tie.invariant-loop-mode
-invariant-loop word pins rule image bytes mode₀ t8 t9 mode = Unit {0}
+invariant-loop word pins rule image bytes mode₀ mode = Unit {0}
 
 abbrev decreases-loop : tie.decreases-loop-mode
-decreases-loop word pins rule image bytes mode₀ t8 t9 mode = 8 - mode
+decreases-loop word pins rule image bytes mode₀ mode = 8 - mode
 
 rule_name-requires : tie.Need-rule_name-requires invariant-loop decreases-loop
 rule_name-requires c κs = search rules

@@ -16,15 +16,15 @@ abbrev start_of : tie.Else-not-external → tie.Start
 start_of c = c.before.before.before.before
 
 is-external : (c : tie.Else-not-external) → external (start_of c).args.look ≡ true
-is-external c = sym c.before.external.ensures ∙ not-false _ c.if-not-external.false
+is-external c = sym c.external.ensures ∙ c.if-not-external.false
 
 as-far : (c : tie.After-least-n) → let a = (start_of c.before).args in c.least-n.result ≡ reach a.look a.strip.now
-as-far c = c.least-n.ensures ∙ ap (λ (n : ℕ). min n (length (start_of c.before).args.strip.now)) c.before.before.before.strip_length-total.ensures
+as-far c = c.least-n.ensures ∙ ap (λ (n : ℕ). min n (length (start_of c.before).args.strip.now)) c.strip_length-total.ensures
 
 -- what the search found
-found : (c : tie.After-search-k) → let l = c.before.before.before in let a = (start_of l.before).args in
+found : (c : tie.After-search-k) → let l = c in let a = (start_of c.before.before.before.before).args in
     c.search-k.result ≡ first_where (high a.look a.strip.now) (reach a.look a.strip.now)
-found c = let l = c.before.before.before in let a = (start_of l.before).args in c.search-k.ensures ∙ ap (λ (n : ℕ). first_where (high a.look a.strip.now) n) (as-far l)
+found c = let l = c in let a = (start_of c.before.before.before.before).args in c.search-k.ensures ∙ ap (λ (n : ℕ). first_where (high a.look a.strip.now) n) (as-far c.before.before.before)
 
 strip_length-total-requires : tie.Need-strip_length-total-requires
 strip_length-total-requires c κs = search rules
@@ -34,9 +34,9 @@ external-requires c κs = search rules
 
 returns-then-not-external : tie.Need-returns-then-not-external
 returns-then-not-external c =
-    let a = c.before.before.before.before.args in
-    c.before.before.strip_length-total.ensures
-    ∙ sym (not_external a.look (λ (k : ℕ). get_or a.strip.now k 0) (sym c.before.external.ensures ∙ not-true _ c.if-not-external.true))
+    let a = c.args in
+    c.strip_length-total.ensures
+    ∙ sym (not_external a.look (λ (k : ℕ). get_or a.strip.now k 0) (sym c.external.ensures ∙ c.if-not-external.true))
 
 least-n-requires : tie.Need-least-n-requires
 least-n-requires c κs = search rules
@@ -46,24 +46,24 @@ some_high-requires c κs = search rules
 
 returns-then-not-some_high : tie.Need-returns-then-not-some_high
 returns-then-not-some_high c =
-    let l = c.before.before in
-    let a = (start_of l.before).args in
-    l.before.before.before.strip_length-total.ensures ∙ none_high a.look a.strip.now (rw (as-far l) at (c.before.some_high.ensures (not-true _ c.if-not-some_high.true)))
+    let l = c in
+    let a = (start_of c.before.before.before).args in
+    l.strip_length-total.ensures ∙ none_high a.look a.strip.now (rw (as-far c.before.before) at (c.some_high.ensures (c.if-not-some_high.true)))
 
 search-k-requires : tie.Need-search-k-requires
 search-k-requires c κs = search rules
 
 returns-then-k-n : tie.Need-returns-then-k-n
 returns-then-k-n c =
-    let l = c.before.before.before.before in
-    let a = (start_of l.before).args in
-    found c.before ∙ found_there a.look a.strip.now (is-external l.before) (rw (found c.before, as-far l) at c.if-k-n.true)
+    let l = c in
+    let a = (start_of c.before.before.before.before.before).args in
+    found c.before ∙ found_there a.look a.strip.now (is-external c.before.before.before.before.before) (rw (found c.before, as-far c.before.before.before.before) at c.if-k-n.true)
 
 returns-else-k-n : tie.Need-returns-else-k-n
 returns-else-k-n c =
-    let l = c.before.before.before.before in
-    let a = (start_of l.before).args in
-    l.before.before.before.strip_length-total.ensures ∙ found_none a.look a.strip.now (rw (found c.before, as-far l) at c.if-k-n.false)
+    let l = c in
+    let a = (start_of c.before.before.before.before.before).args in
+    l.strip_length-total.ensures ∙ found_none a.look a.strip.now (rw (found c.before, as-far c.before.before.before.before) at c.if-k-n.false)
 
 pub first_not_valid_spec : {M : Type 1} → statement M
 first_not_valid_spec =

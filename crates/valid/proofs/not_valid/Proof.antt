@@ -13,7 +13,7 @@ check-requires : tie.Need-check-requires
 check-requires c κs = search rules
 
 returns : tie.Need-returns
-returns c = rw (c.before.before.first_not_valid-k.ensures, c.before.strip_length.ensures) at c.check.ensures
+returns c = rw (c.first_not_valid-k.ensures, c.strip_length.ensures) at c.check.ensures
 
 pub not_valid_spec : {M : Type 1} → statement M
 not_valid_spec =

@@ -24,7 +24,7 @@ bounds-strip-k : tie.Need-bounds-strip-k invariant-loop decreases-loop
 bounds-strip-k c = omega arith
 
 returns-then-strip-k-ge128 : tie.Need-returns-then-strip-k-ge128 invariant-loop decreases-loop
-returns-then-strip-k-ge128 c = sym (first_at _ _ _ c.before.before.before.loop-k.invariant.1 (le-leb _ _ c.if-strip-k-ge128.true) (omega arith))
+returns-then-strip-k-ge128 c = sym (first_at _ _ _ c.loop-k.invariant.1 (le-leb _ _ c.if-strip-k-ge128.true) (omega arith))
 
 overflow_add-k : tie.Need-overflow_add-k invariant-loop decreases-loop
 overflow_add-k c = omega arith
@@ -33,12 +33,12 @@ loop-k-smaller : tie.Need-loop-k-smaller invariant-loop decreases-loop
 loop-k-smaller c = omega arith
 
 loop-k-preserved : tie.Need-loop-k-preserved invariant-loop decreases-loop
-loop-k-preserved c = (omega arith, below_more _ _ c.before.before.before.loop-k.invariant.1 (lt-leb _ _ c.if-strip-k-ge128.false))
+loop-k-preserved c = (omega arith, below_more _ _ c.loop-k.invariant.1 (lt-leb _ _ c.if-strip-k-ge128.false))
 
 returns-2 : tie.Need-returns invariant-loop decreases-loop
 returns-2 c =
-    let e : c.before.loop-k.k ≡ c.before.before.args.n = omega arith in
-    e ∙ sym (first_none _ _ (λ j l. c.before.loop-k.invariant.1 j (omega arith)))
+    let e : c.loop-k.k ≡ c.args.n = omega arith in
+    e ∙ sym (first_none _ _ (λ j l. c.loop-k.invariant.1 j (omega arith)))
 
 pub search_spec : {M : Type 1} → statement M
 search_spec =

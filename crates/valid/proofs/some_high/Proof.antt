@@ -30,11 +30,11 @@ loop-k-smaller c = omega arith
 
 loop-k-preserved : tie.Need-loop-k-preserved invariant-loop decreases-loop
 loop-k-preserved c =
-    let l = c.before.before in
+    let l = c in
     (omega arith, λ h. let e = neither l.loop-k.found _ h in below_more _ _ (l.loop-k.invariant.1 e.0) e.1)
 
 returns : tie.Need-returns invariant-loop decreases-loop
-returns c = λ h j m. c.before.loop-k.invariant.1 h j (omega arith)
+returns c = λ h j m. c.loop-k.invariant.1 h j (omega arith)
 
 pub some_high_spec : {M : Type 1} → statement M
 some_high_spec =

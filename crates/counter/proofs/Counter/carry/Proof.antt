@@ -11,11 +11,11 @@ abbrev start_of : tie.Else-x-times_x → tie.Start
 start_of c = c.before.before.before.before.before
 
 -- the dividers of the settings
-div-x : (c : tie.After-times_x) → c.times_x.result ≡ div_x c.before.before.before.before.args.settings
-div-x c = c.times_x.ensures ∙ ap (λ (v : ℕ). get_or times_x v 0) c.before.before.before.video_mode-v.ensures
+div-x : (c : tie.After-times_x) → c.times_x.result ≡ div_x c.args.settings
+div-x c = c.times_x.ensures ∙ ap (λ (v : ℕ). get_or times_x v 0) c.video_mode-v.ensures
 
 div-y : (c : tie.After-times_y) → c.times_y.result ≡ div_y (start_of c.before.before).args.settings
-div-y c = c.times_y.ensures ∙ ap (λ (v : ℕ). get_or times_y v 0) c.before.before.before.before.before.before.video_mode-v.ensures
+div-y c = c.times_y.ensures ∙ ap (λ (v : ℕ). get_or times_y v 0) c.video_mode-v.ensures
 
 -- there the X divider is at its last count
 x-done : (c : tie.Else-x-times_x) → ltb ((start_of c).args.self.x + 1) (div_x (start_of c).args.settings) ≡ false
@@ -44,7 +44,7 @@ times_x-requires : tie.Need-times_x-requires
 times_x-requires c κs = search rules
 
 overflow_add-result : tie.Need-overflow_add-result
-overflow_add-result c = omega (arith, rw (div-x c.before) at c.if-x-times_x.true, div_x_le c.before.before.before.before.before.args.settings)
+overflow_add-result c = omega (arith, rw (div-x c.before) at c.if-x-times_x.true, div_x_le c.args.settings)
 
 returns-then-x-times_x : tie.Need-returns-then-x-times_x
 unfolding carry
@@ -52,7 +52,7 @@ returns-then-x-times_x c = simp (lt-ltb _ _ (rw (div-x c.before) at c.if-x-times
 
 returns-then-run-eq0 : tie.Need-returns-then-run-eq0
 unfolding carry
-returns-then-run-eq0 c = simp (x-done c.before, eq-eqb _ _ c.if-run-eq0.true, c.before.before.before.wrapping_add_u16-next.ensures)
+returns-then-run-eq0 c = simp (x-done c.before, eq-eqb _ _ c.if-run-eq0.true, c.wrapping_add_u16-next.ensures)
 
 overflow_cast-y : tie.Need-overflow_cast-y
 overflow_cast-y c = search rules
@@ -71,18 +71,18 @@ overflow_add-result-then-y-times_y c = omega (arith, y-counts c, div_y_le (start
 
 returns-then-y-times_y : tie.Need-returns-then-y-times_y
 unfolding carry fall
-returns-then-y-times_y c = simp (x-done c.before.before.before, ne_eqb _ _ c.before.before.if-run-eq0.false, lt-ltb _ _ (y-counts c))
+returns-then-y-times_y c = simp (x-done c.before.before.before, ne_eqb _ _ c.if-run-eq0.false, lt-ltb _ _ (y-counts c))
 
 returns-4 : tie.Need-returns
 unfolding carry fall
 returns-4 c =
-    let p = c.before.before.before in
+    let p = c in
     simp (
-      x-done p,
-      ne_eqb _ _ c.before.before.if-run-eq0.false,
+      x-done c.before.before.before,
+      ne_eqb _ _ c.if-run-eq0.false,
       le-ltb _ _ (rw (div-y c.before) at c.if-y-times_y.false),
-      c.before.before.before.before.before.wrapping_add_u16-next.ensures,
-    ) (ap (λ (a : ℕ). counter a 0 0) (wrap_fall (run (start_of p).args.self) (omega arith) c.before.before.if-run-eq0.false))
+      c.wrapping_add_u16-next.ensures,
+    ) (ap (λ (a : ℕ). counter a 0 0) (wrap_fall (run (start_of c.before.before.before).args.self) (omega arith) c.if-run-eq0.false))
 
 pub carry_spec : {M : Type 1} → statement M
 carry_spec =

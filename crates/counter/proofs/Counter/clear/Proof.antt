@@ -11,10 +11,10 @@ abbrev cleared-of : tie.After-clearing_counts → tie.After-cleared-cleared
 cleared-of c = c.before.before.before
 
 abbrev settings : tie.After-clearing_counts → Settings
-settings c = (cleared-of c).before.args.settings
+settings c = (cleared-of c).args.settings
 
 abbrev self : tie.After-clearing_counts → Counter
-self c = (cleared-of c).before.args.self
+self c = (cleared-of c).args.self
 
 -- the test is the definition's
 test-is : (c : tie.After-clearing_counts) {t : Bool}
@@ -34,12 +34,12 @@ fall-requires c κs = search rules
 returns-then-clearing_counts-drops : tie.Need-returns-then-clearing_counts-drops
 unfolding clear
 returns-then-clearing_counts-drops c =
-    let p = c.before.before in
-    simp (test-is p c.before.if-clearing_counts-drops.true) (c.fall.ensures ∙ ap (fall (settings p)) (cleared-of p).cleared-cleared.ensures)
+    let p = c in
+    simp (test-is c.before.before c.if-clearing_counts-drops.true) (c.fall.ensures ∙ ap (fall (settings c.before.before)) (cleared-of c.before.before).cleared-cleared.ensures)
 
 returns-2 : tie.Need-returns
 unfolding clear
-returns-2 c = let p = c.before in simp (test-is p c.if-clearing_counts-drops.false) (cleared-of p).cleared-cleared.ensures
+returns-2 c = let p = c in simp (test-is c.before c.if-clearing_counts-drops.false) (cleared-of c.before).cleared-cleared.ensures
 
 pub clear_spec : {M : Type 1} → statement M
 clear_spec =

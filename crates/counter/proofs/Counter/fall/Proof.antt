@@ -6,8 +6,8 @@ use Rattle.counter.proofs.Counter.fall.Statement.{statement}
 use Rattle.counter.proofs.Counter.fall.Tie as tie
 
 -- the Y divider of the settings
-div-y : (c : tie.After-times_y) → c.times_y.result ≡ div_y c.before.before.args.settings
-div-y c = c.times_y.ensures ∙ ap (λ (v : ℕ). get_or times_y v 0) c.before.video_mode-v.ensures
+div-y : (c : tie.After-times_y) → c.times_y.result ≡ div_y c.args.settings
+div-y c = c.times_y.ensures ∙ ap (λ (v : ℕ). get_or times_y v 0) c.video_mode-v.ensures
 
 video_mode-v-requires : tie.Need-video_mode-v-requires
 video_mode-v-requires c κs = search rules
@@ -22,7 +22,7 @@ times_y-requires : tie.Need-times_y-requires
 times_y-requires c κs = search rules
 
 overflow_add-result : tie.Need-overflow_add-result
-overflow_add-result c = omega (arith, rw (div-y c.before) at c.if-y-times_y.true, div_y_le c.before.before.before.args.settings)
+overflow_add-result c = omega (arith, rw (div-y c.before) at c.if-y-times_y.true, div_y_le c.args.settings)
 
 returns-then-y-times_y : tie.Need-returns-then-y-times_y
 unfolding fall
@@ -33,7 +33,7 @@ wrapping_add_u16-requires c κs = search rules
 
 returns-2 : tie.Need-returns
 unfolding fall
-returns-2 c = simp (le-ltb _ _ (rw (div-y c.before.before) at c.before.if-y-times_y.false), c.wrapping_add_u16.ensures)
+returns-2 c = simp (le-ltb _ _ (rw (div-y c.before.before) at c.if-y-times_y.false), c.wrapping_add_u16.ensures)
 
 pub fall_spec : {M : Type 1} → statement M
 fall_spec =

@@ -19,22 +19,22 @@ loop-t-init : tie.Need-loop-t-init invariant-loop decreases-loop
 loop-t-init c = (omega arith, upto (omega arith) (none _ _ _))
 
 overflow_mul-stretch : tie.Need-overflow_mul-stretch invariant-loop decreases-loop
-overflow_mul-stretch c = omega (arith, stretch_le c.before.requires.0)
+overflow_mul-stretch c = omega (arith, stretch_le c.requires.0)
 
 nonzero_div-frame : tie.Need-nonzero_div-frame invariant-loop decreases-loop
-nonzero_div-frame c = stretch_pos c.before.before.requires.0
+nonzero_div-frame c = stretch_pos c.requires.0
 
 overflow_add-frame : tie.Need-overflow_add-frame invariant-loop decreases-loop
-overflow_add-frame c = omega (arith, dot_below c.before.before.requires.0 c.before.loop-t.t (omega arith))
+overflow_add-frame c = omega (arith, dot_below c.requires.0 c.loop-t.t (omega arith))
 
 bounds-table-from : tie.Need-bounds-table-from invariant-loop decreases-loop
-bounds-table-from c = omega (arith, dot_below c.before.before.requires.0 c.before.loop-t.t (omega arith))
+bounds-table-from c = omega (arith, dot_below c.requires.0 c.loop-t.t (omega arith))
 
 overflow_add-frame-in-loop-t : tie.Need-overflow_add-frame-in-loop-t invariant-loop decreases-loop
 overflow_add-frame-in-loop-t c = omega arith
 
 bounds-frame-at : tie.Need-bounds-frame-at invariant-loop decreases-loop
-bounds-frame-at c = omega (arith, c.before.before.loop-t.invariant.1.long)
+bounds-frame-at c = omega (arith, c.loop-t.invariant.1.long)
 
 overflow_add-t : tie.Need-overflow_add-t invariant-loop decreases-loop
 overflow_add-t c = omega arith
@@ -43,13 +43,13 @@ loop-t-smaller : tie.Need-loop-t-smaller invariant-loop decreases-loop
 loop-t-smaller c = omega arith
 
 loop-t-preserved : tie.Need-loop-t-preserved invariant-loop decreases-loop
-loop-t-preserved c = (omega arith, step _ _ c.before.before.loop-t.invariant.1 (omega (arith, c.before.before.loop-t.invariant.1.long)) (ap (λ (j : ℕ). get_or c.before.before.before.args.table.now (c.before.before.before.args.from + j / c.before.before.before.args.stretch) 0) (omega arith)))
+loop-t-preserved c = (omega arith, step _ _ c.loop-t.invariant.1 (omega (arith, c.loop-t.invariant.1.long)) (ap (λ (j : ℕ). get_or c.args.table.now (c.args.from + j / c.args.stretch) 0) (omega arith)))
 
 shape_of-frame : tie.Need-shape_of-frame invariant-loop decreases-loop
-shape_of-frame c = c.before.loop-t.invariant.1.long
+shape_of-frame c = c.loop-t.invariant.1.long
 
 returns : tie.Need-returns invariant-loop decreases-loop
-returns c = upto (omega arith) c.before.loop-t.invariant.1
+returns c = upto (omega arith) c.loop-t.invariant.1
 
 pub copy_spec : {M : Type 1} → statement M
 copy_spec =

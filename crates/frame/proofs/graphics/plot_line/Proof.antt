@@ -18,20 +18,20 @@ abbrev decreases-loop : tie.decreases-loop-c
 decreases-loop stretch table strip n frame₀ width c₀ frame c = 32 / stretch - c
 
 nonzero_div-width : tie.Need-nonzero_div-width invariant-loop decreases-loop
-nonzero_div-width c = stretch_pos c.before.before.requires.0
+nonzero_div-width c = stretch_pos c.requires.0
 
 loop-c-init : tie.Need-loop-c-init invariant-loop decreases-loop
 loop-c-init c = (zero-le, upto (omega arith) (none _ _ _))
 
 -- the byte's place in the strip, and its pixels' in the frame
-byte_at : (c : tie.In-loop-c invariant-loop decreases-loop) → let s = c.before.before.before.before in let n = s.args.n in let w = 32 / s.args.stretch in
-    (n * w + c.before.loop-c.c < 192 * w) × (n * w + c.before.loop-c.c < 6144)
-byte_at c = let s = c.before.before.before.before in byte_within s.requires.0 s.args.n c.before.loop-c.c s.requires.1 (omega arith)
+byte_at : (c : tie.In-loop-c invariant-loop decreases-loop) → let s = c in let n = s.args.n in let w = 32 / s.args.stretch in
+    (n * w + c.loop-c.c < 192 * w) × (n * w + c.loop-c.c < 6144)
+byte_at c = let s = c in byte_within s.requires.0 s.args.n c.loop-c.c s.requires.1 (omega arith)
 
-cell_at : (c : tie.After-copy-arg-1 invariant-loop decreases-loop) → let l = c.before.before.before.before in let s = l.before.before.before in let d = 8 * s.args.stretch in s.args.n * 256 + l.loop-c.c * d + d ≤ frame_length
+cell_at : (c : tie.After-copy-arg-1 invariant-loop decreases-loop) → let l = c in let s = c in let d = 8 * s.args.stretch in s.args.n * 256 + l.loop-c.c * d + d ≤ frame_length
 cell_at c =
-    let l = c.before.before.before.before in
-    let s = l.before.before.before in
+    let l = c in
+    let s = c in
     cell_within s.requires.0 s.args.n l.loop-c.c s.requires.1 (omega arith)
 
 overflow_mul-n : tie.Need-overflow_mul-n invariant-loop decreases-loop
@@ -41,7 +41,7 @@ overflow_add-n : tie.Need-overflow_add-n invariant-loop decreases-loop
 overflow_add-n c = omega (arith, byte_at c)
 
 bounds-strip-n : tie.Need-bounds-strip-n invariant-loop decreases-loop
-bounds-strip-n c = omega (arith, byte_at c.before, c.before.before.before.before.before.requires.2)
+bounds-strip-n c = omega (arith, byte_at c.before, c.requires.2)
 
 wide-requires : tie.Need-wide-requires invariant-loop decreases-loop
 wide-requires c κs = search rules
@@ -53,7 +53,7 @@ overflow_mul-n-in-loop-c : tie.Need-overflow_mul-n-in-loop-c invariant-loop decr
 overflow_mul-n-in-loop-c c = omega arith
 
 overflow_mul-stretch : tie.Need-overflow_mul-stretch invariant-loop decreases-loop
-overflow_mul-stretch c = omega (arith, stretch_le c.before.before.before.before.before.before.before.requires.0)
+overflow_mul-stretch c = omega (arith, stretch_le c.requires.0)
 
 overflow_mul-c : tie.Need-overflow_mul-c invariant-loop decreases-loop
 overflow_mul-c c = omega (arith, cell_at c)
@@ -62,7 +62,7 @@ overflow_add-n-in-loop-c : tie.Need-overflow_add-n-in-loop-c invariant-loop decr
 overflow_add-n-in-loop-c c = omega (arith, cell_at c)
 
 copy-requires : tie.Need-copy-requires invariant-loop decreases-loop
-copy-requires c κs = (c.before.before.before.before.before.before.before.requires.0, omega (arith, c.before.wide.ensures), omega (arith, cell_at c, c.before.before.before.before.loop-c.invariant.1.long))
+copy-requires c κs = (c.requires.0, omega (arith, c.wide.ensures), omega (arith, cell_at c, c.loop-c.invariant.1.long))
 
 overflow_add-c : tie.Need-overflow_add-c invariant-loop decreases-loop
 overflow_add-c c = omega (arith, byte_at c.before.before.before.before.before.before)
@@ -72,23 +72,23 @@ loop-c-smaller c = omega arith
 
 loop-c-preserved : tie.Need-loop-c-preserved invariant-loop decreases-loop
 loop-c-preserved c =
-    let l = c.before.before.before.before.before.before.before in
-    let s = l.before.before.before in
-    let w = c.before.before.before.before in (
+    let l = c in
+    let s = c in
+    let w = c in (
       omega arith,
       upto (cell_end s.requires.0 s.args.n l.loop-c.c)
           (join (omega arith) (omega arith) l.loop-c.invariant.1
-          (by (cell s.requires.0 s.args.table.now s.args.strip.now s.args.n l.loop-c.c w.wide.result w.wide.ensures.0) c.before.before.copy.ensures)),
+          (by (cell s.requires.0 s.args.table.now s.args.strip.now s.args.n l.loop-c.c w.wide.result w.wide.ensures.0) c.copy.ensures)),
     )
 
 shape_of-frame : tie.Need-shape_of-frame invariant-loop decreases-loop
-shape_of-frame c = c.before.loop-c.invariant.1.long
+shape_of-frame c = c.loop-c.invariant.1.long
 
 returns : tie.Need-returns invariant-loop decreases-loop
 returns c =
-    let s = c.before.before.before.before in
-    let e : c.before.loop-c.c ≡ 32 / s.args.stretch = omega arith in
-    upto (ap (λ (j : ℕ). s.args.n * 256 + j * (8 * s.args.stretch)) e ∙ line_end s.requires.0 s.args.n) c.before.loop-c.invariant.1
+    let s = c in
+    let e : c.loop-c.c ≡ 32 / s.args.stretch = omega arith in
+    upto (ap (λ (j : ℕ). s.args.n * 256 + j * (8 * s.args.stretch)) e ∙ line_end s.requires.0 s.args.n) c.loop-c.invariant.1
 
 pub plot_line_spec : {M : Type 1} → statement M
 plot_line_spec =

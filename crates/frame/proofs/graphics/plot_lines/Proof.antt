@@ -17,7 +17,7 @@ loop-n-init : tie.Need-loop-n-init invariant-loop decreases-loop
 loop-n-init c = (omega arith, none _ _ _)
 
 plot_line-requires : tie.Need-plot_line-requires invariant-loop decreases-loop
-plot_line-requires c κs = let s = c.before.before.before.before.before in (s.requires.0, omega arith, s.requires.1, omega (arith, c.before.before.loop-n.invariant.1.long))
+plot_line-requires c κs = let s = c in (s.requires.0, omega arith, s.requires.1, omega (arith, c.loop-n.invariant.1.long))
 
 overflow_add-n : tie.Need-overflow_add-n invariant-loop decreases-loop
 overflow_add-n c = omega arith
@@ -26,13 +26,13 @@ loop-n-smaller : tie.Need-loop-n-smaller invariant-loop decreases-loop
 loop-n-smaller c = omega arith
 
 loop-n-preserved : tie.Need-loop-n-preserved invariant-loop decreases-loop
-loop-n-preserved c = (omega arith, upto (omega arith) (join zero-le (omega arith) c.before.before.before.before.before.loop-n.invariant.1 c.before.before.plot_line.ensures))
+loop-n-preserved c = (omega arith, upto (omega arith) (join zero-le (omega arith) c.loop-n.invariant.1 c.plot_line.ensures))
 
 shape_of-frame : tie.Need-shape_of-frame invariant-loop decreases-loop
-shape_of-frame c = c.before.loop-n.invariant.1.long
+shape_of-frame c = c.loop-n.invariant.1.long
 
 returns : tie.Need-returns invariant-loop decreases-loop
-returns c = upto (omega arith) c.before.loop-n.invariant.1
+returns c = upto (omega arith) c.loop-n.invariant.1
 
 pub plot_lines_spec : {M : Type 1} → statement M
 plot_lines_spec =

@@ -26,7 +26,7 @@ loop-row-init : tie.Need-loop-row-init invariant-loop decreases-loop
 loop-row-init c = (omega arith, upto (omega arith) (none _ _ _))
 
 lit-requires : tie.Need-lit-requires invariant-loop decreases-loop
-lit-requires c κs = (c.before.before.before.before.requires.0, omega arith)
+lit-requires c κs = (c.requires.0, omega arith)
 
 overflow_add-glyphs : tie.Need-overflow_add-glyphs invariant-loop decreases-loop
 overflow_add-glyphs c = omega arith
@@ -43,12 +43,12 @@ loop-row-smaller c = omega arith
 loop-row-preserved : tie.Need-loop-row-preserved invariant-loop decreases-loop
 loop-row-preserved c = (
   omega arith,
-  step _ _ c.before.before.loop-row.invariant.1 (omega (arith, c.before.before.loop-row.invariant.1.long))
-      (c.lit.ensures ∙ row_of _ _ _ _ _ (omega arith) c.before.before.before.wide-at.ensures.0),
+  step _ _ c.loop-row.invariant.1 (omega (arith, c.loop-row.invariant.1.long))
+      (c.lit.ensures ∙ row_of _ _ _ _ _ (omega arith) c.wide-at.ensures.0),
 )
 
 returns : tie.Need-returns invariant-loop decreases-loop
-returns c = let s = c.before.before.wide-at in rw s.ensures.0 at (upto {n = s.result * 12 + 12} (omega arith) c.before.loop-row.invariant.1)
+returns c = let s = c.wide-at in rw s.ensures.0 at (upto {n = s.result * 12 + 12} (omega arith) c.loop-row.invariant.1)
 
 pub glyph_spec : {M : Type 1} → statement M
 glyph_spec =

@@ -20,7 +20,7 @@ overflow_cast-b : tie.Need-overflow_cast-b invariant-loop decreases-loop
 overflow_cast-b c = omega arith
 
 glyph-requires : tie.Need-glyph-requires invariant-loop decreases-loop
-glyph-requires c κs = (c.before.before.before.before.requires.0, omega (arith, c.before.before.loop-b.invariant.1.long))
+glyph-requires c κs = (c.requires.0, omega (arith, c.loop-b.invariant.1.long))
 
 overflow_add-b : tie.Need-overflow_add-b invariant-loop decreases-loop
 overflow_add-b c = omega arith
@@ -29,10 +29,10 @@ loop-b-smaller : tie.Need-loop-b-smaller invariant-loop decreases-loop
 loop-b-smaller c = omega arith
 
 loop-b-preserved : tie.Need-loop-b-preserved invariant-loop decreases-loop
-loop-b-preserved c = (omega arith, upto (omega arith) (join zero-le (omega arith) c.before.before.before.loop-b.invariant.1 c.glyph.ensures))
+loop-b-preserved c = (omega arith, upto (omega arith) (join zero-le (omega arith) c.loop-b.invariant.1 c.glyph.ensures))
 
 returns : tie.Need-returns invariant-loop decreases-loop
-returns c = upto (omega arith) c.before.loop-b.invariant.1
+returns c = upto (omega arith) c.loop-b.invariant.1
 
 pub glyphs_spec : {M : Type 1} → statement M
 glyphs_spec =

@@ -14,7 +14,7 @@ overflow_mul-result c = search rules
 
 returns-then-b-lt128 : tie.Need-returns-then-b-lt128
 unfolding ink
-returns-then-b-lt128 c = (simp (lt-ltb _ _ c.before.if-b-lt128.true, c.css.ensures), omega (arith, c.css.ensures))
+returns-then-b-lt128 c = (simp (lt-ltb _ _ c.if-b-lt128.true, c.css.ensures), omega (arith, c.css.ensures))
 
 returns-2 : tie.Need-returns
 unfolding ink

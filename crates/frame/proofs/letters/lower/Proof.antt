@@ -11,7 +11,7 @@ gm-requires : tie.Need-gm-requires
 gm-requires c κs = search rules
 
 returns : tie.Need-returns
-returns c = rw (c.before.external.ensures, c.gm.ensures, gm_low _)
+returns c = rw (c.external.ensures, c.gm.ensures, gm_low _)
 
 pub lower_spec : {M : Type 1} → statement M
 lower_spec = tie.close (tie.spec external-requires gm-requires returns)

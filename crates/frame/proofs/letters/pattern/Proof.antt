@@ -8,8 +8,8 @@ use Rattle.frame.proofs.letters.pattern.Statement.{statement}
 use Rattle.frame.proofs.letters.pattern.Tie as tie
 
 -- past the test the text is internal
-internal : (c : tie.Else-external) → external c.before.before.args.look ≡ false
-internal c = rw c.before.external.ensures at c.if-external.false
+internal : (c : tie.Else-external) → external c.args.look ≡ false
+internal c = rw c.external.ensures at c.if-external.false
 
 external-requires : tie.Need-external-requires
 external-requires c κs = search rules
@@ -19,7 +19,7 @@ wide-requires c κs = search rules
 
 returns-then-external : tie.Need-returns-then-external
 unfolding pattern
-returns-then-external c = rw (rw c.before.before.external.ensures at c.before.if-external.true, c.wide.ensures.0)
+returns-then-external c = rw (rw c.external.ensures at c.if-external.true, c.wide.ensures.0)
 
 lower-requires : tie.Need-lower-requires
 lower-requires c κs = search rules
@@ -35,11 +35,11 @@ wide-requires-else-lower c κs = search rules
 
 returns-then-lower : tie.Need-returns-then-lower
 unfolding pattern
-returns-then-lower c = rw (rw c.before.before.lower.ensures at c.before.if-lower.true, internal c.before.before.before, c.wide-then-lower.ensures.0)
+returns-then-lower c = rw (rw c.lower.ensures at c.if-lower.true, internal c.before.before.before, c.wide-then-lower.ensures.0)
 
 returns-else-lower : tie.Need-returns-else-lower
 unfolding pattern
-returns-else-lower c = rw (rw c.before.before.lower.ensures at c.before.if-lower.false, internal c.before.before.before, c.wide-else-lower.ensures.0)
+returns-else-lower c = rw (rw c.lower.ensures at c.if-lower.false, internal c.before.before.before, c.wide-else-lower.ensures.0)
 
 pub pattern_spec : {M : Type 1} → statement M
 pattern_spec =

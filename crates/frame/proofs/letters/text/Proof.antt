@@ -29,7 +29,7 @@ loop-line-init : tie.Need-loop-line-init invariant-loop decreases-loop
 loop-line-init c = (omega arith, none _ _ _)
 
 text_line-requires : tie.Need-text_line-requires invariant-loop decreases-loop
-text_line-requires c κs = let l = c.before.before.before.before in ((omega arith, (start_of l.before).requires.2, omega (arith, l.loop-line.invariant.1.long)), λ j h. l.before.before.before.by_bits.ensures.is j zero-le h)
+text_line-requires c κs = let l = c in ((omega arith, (start_of c.before.before.before.before.before).requires.2, omega (arith, l.loop-line.invariant.1.long)), λ j h. l.by_bits.ensures.is j zero-le h)
 
 overflow_add-line : tie.Need-overflow_add-line invariant-loop decreases-loop
 overflow_add-line c = omega arith
@@ -38,17 +38,17 @@ loop-line-smaller : tie.Need-loop-line-smaller invariant-loop decreases-loop
 loop-line-smaller c = omega arith
 
 loop-line-preserved : tie.Need-loop-line-preserved invariant-loop decreases-loop
-loop-line-preserved c = (omega arith, upto (omega arith) (join zero-le (omega arith) c.before.before.before.before.before.before.before.loop-line.invariant.1 c.before.before.text_line.ensures))
+loop-line-preserved c = (omega arith, upto (omega arith) (join zero-le (omega arith) c.loop-line.invariant.1 c.text_line.ensures))
 
 shape_of-frame : tie.Need-shape_of-frame invariant-loop decreases-loop
-shape_of-frame c = c.before.loop-line.invariant.1.long
+shape_of-frame c = c.loop-line.invariant.1.long
 
 returns : tie.Need-returns invariant-loop decreases-loop
 returns c =
-    let g = c.before.before in
-    let s = start_of g in
-    by (λ k _ _. typed_picture s.args.look _ s.args.strip.now s.args.font.now _ s.requires.0 g.glyphs.ensures (λ j. (g.before.before.before.before.before.shared_slice_known-2-1.given j).fits) k)
-    (upto (omega arith) c.before.loop-line.invariant.1)
+    let g = c in
+    let s = start_of c.before.before in
+    by (λ k _ _. typed_picture s.args.look _ s.args.strip.now s.args.font.now _ s.requires.0 g.glyphs.ensures (λ j. (g.shared_slice_known-2-1.given j).fits) k)
+    (upto (omega arith) c.loop-line.invariant.1)
 
 pub text_spec : {M : Type 1} → statement M
 text_spec =

@@ -19,7 +19,7 @@ decreases-loop look masks glyphs strip n frame₀ row c₀ frame c = 32 - c
 
 -- the turn of the loop, from behind the ink
 abbrev turn : tie.After-ink invariant-loop decreases-loop → tie.At-loop-c invariant-loop decreases-loop
-turn c = c.before.before.before.before.before
+turn c = c.before.before.before.before.before.before
 
 loop-c-init : tie.Need-loop-c-init invariant-loop decreases-loop
 loop-c-init c = (omega arith, upto (omega arith) (none _ _ _))
@@ -58,7 +58,7 @@ overflow_add-n : tie.Need-overflow_add-n invariant-loop decreases-loop
 overflow_add-n c = omega arith
 
 tint-requires : tie.Need-tint-requires invariant-loop decreases-loop
-tint-requires c κs = ((c.before.ink.ensures.1, omega (arith, (turn c.before).loop-c.inv.1.long)), (turn c.before).before.before.before.requires.1)
+tint-requires c κs = ((c.ink.ensures.1, omega (arith, (turn c.before).loop-c.inv.1.long)), (turn c.before).requires.1)
 
 overflow_add-c : tie.Need-overflow_add-c invariant-loop decreases-loop
 overflow_add-c c = omega arith
@@ -68,21 +68,21 @@ loop-c-smaller c = omega arith
 
 loop-c-preserved : tie.Need-loop-c-preserved invariant-loop decreases-loop
 loop-c-preserved c =
-    let i = c.before.before.before.before in
-    let l = turn i in
+    let i = c in
+    let l = turn c.before.before.before.before in
     let s = l.before.before.before in
-    let w = i.before.before in (
+    let w = c in (
       omega arith,
       upto (omega arith)
           (join {n = s.args.n * 256 + l.loop-c.c * 8 + 8} (omega arith) (omega arith) l.loop-c.inv.1
-          (by (typed_cell s.args.look s.args.glyphs.now s.args.strip.now s.args.n l.loop-c.c i.ink.result _ (omega arith) i.ink.ensures.0 (ap (λ (j : ℕ). get_or s.args.glyphs.now (j * 12 + s.args.n % 12) 0) w.wide.ensures.0)) c.before.before.tint.ensures)),
+          (by (typed_cell s.args.look s.args.glyphs.now s.args.strip.now s.args.n l.loop-c.c i.ink.result _ (omega arith) i.ink.ensures.0 (ap (λ (j : ℕ). get_or s.args.glyphs.now (j * 12 + s.args.n % 12) 0) w.wide.ensures.0)) c.tint.ensures)),
     )
 
 shape_of-frame : tie.Need-shape_of-frame invariant-loop decreases-loop
-shape_of-frame c = c.before.loop-c.invariant.1.long
+shape_of-frame c = c.loop-c.invariant.1.long
 
 returns : tie.Need-returns invariant-loop decreases-loop
-returns c = upto (omega arith) c.before.loop-c.invariant.1
+returns c = upto (omega arith) c.loop-c.invariant.1
 
 pub text_line_spec : {M : Type 1} → statement M
 text_line_spec =

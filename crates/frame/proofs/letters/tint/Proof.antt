@@ -36,12 +36,12 @@ overflow_add-frame c = omega arith
 bounds-masks-from : tie.Need-bounds-masks-from invariant-loop decreases-loop
 bounds-masks-from c = omega arith
 
-dot_at : (c : tie.After-frame-1 invariant-loop decreases-loop) → let s = c.before.before.before.before.before in let t = c.before.before.loop-t.t in
-    (bit_and (8 - s.args.ink) (get_or s.args.masks.now (c.before.before.before.wide-from.result * 8 + t) 0) ≤ 8)
-    × (8 - bit_and (8 - s.args.ink) (get_or s.args.masks.now (c.before.before.before.wide-from.result * 8 + t) 0) ≡ one_bit s.args.ink black s.args.lit t)
+dot_at : (c : tie.After-frame-1 invariant-loop decreases-loop) → let s = c in let t = c.loop-t.t in
+    (bit_and (8 - s.args.ink) (get_or s.args.masks.now (c.wide-from.result * 8 + t) 0) ≤ 8)
+    × (8 - bit_and (8 - s.args.ink) (get_or s.args.masks.now (c.wide-from.result * 8 + t) 0) ≡ one_bit s.args.ink black s.args.lit t)
 dot_at c =
-    let s = c.before.before.before.before.before in
-    masked s.args.masks.now s.requires.1 s.args.ink s.args.lit c.before.before.before.wide-from.result c.before.before.loop-t.t s.requires.0.0 (omega arith) (omega arith) c.before.before.before.wide-from.ensures.0
+    let s = c in
+    masked s.args.masks.now s.requires.1 s.args.ink s.args.lit c.wide-from.result c.loop-t.t s.requires.0.0 (omega arith) (omega arith) c.wide-from.ensures.0
 
 overflow_sub-frame : tie.Need-overflow_sub-frame invariant-loop decreases-loop
 overflow_sub-frame c = (dot_at c).0
@@ -50,7 +50,7 @@ overflow_add-frame-in-loop-t : tie.Need-overflow_add-frame-in-loop-t invariant-l
 overflow_add-frame-in-loop-t c = omega arith
 
 bounds-frame-at : tie.Need-bounds-frame-at invariant-loop decreases-loop
-bounds-frame-at c = omega (arith, c.before.before.loop-t.invariant.1.long)
+bounds-frame-at c = omega (arith, c.loop-t.invariant.1.long)
 
 overflow_add-t : tie.Need-overflow_add-t invariant-loop decreases-loop
 overflow_add-t c = omega arith
@@ -61,15 +61,15 @@ loop-t-smaller c = omega arith
 loop-t-preserved : tie.Need-loop-t-preserved invariant-loop decreases-loop
 loop-t-preserved c = (
   omega arith,
-  step _ _ c.before.before.loop-t.invariant.1 (omega (arith, c.before.before.loop-t.invariant.1.long))
-      ((dot_at c).1 ∙ ap (one_bit c.before.before.before.before.before.args.ink black c.before.before.before.before.before.args.lit) (omega arith)),
+  step _ _ c.loop-t.invariant.1 (omega (arith, c.loop-t.invariant.1.long))
+      ((dot_at c).1 ∙ ap (one_bit c.args.ink black c.args.lit) (omega arith)),
 )
 
 shape_of-frame : tie.Need-shape_of-frame invariant-loop decreases-loop
-shape_of-frame c = c.before.loop-t.invariant.1.long
+shape_of-frame c = c.loop-t.invariant.1.long
 
 returns : tie.Need-returns invariant-loop decreases-loop
-returns c = upto (omega arith) c.before.loop-t.invariant.1
+returns c = upto (omega arith) c.loop-t.invariant.1
 
 pub tint_spec : {M : Type 1} → statement M
 tint_spec =

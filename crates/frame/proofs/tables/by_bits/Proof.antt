@@ -32,10 +32,10 @@ loop-n-smaller : tie.Need-loop-n-smaller invariant-loop decreases-loop
 loop-n-smaller c = omega arith
 
 loop-n-preserved : tie.Need-loop-n-preserved invariant-loop decreases-loop
-loop-n-preserved c = (omega arith, more _ c.before.before.loop-n.invariant.1 (omega arith) (omega (arith, c.before.before.loop-n.invariant.1.long)) c.one_bit.ensures)
+loop-n-preserved c = (omega arith, more _ c.loop-n.invariant.1 (omega arith) (omega (arith, c.loop-n.invariant.1.long)) c.one_bit.ensures)
 
 returns : tie.Need-returns invariant-loop decreases-loop
-returns c = upto (omega arith) c.before.loop-n.invariant.1
+returns c = upto (omega arith) c.loop-n.invariant.1
 
 pub by_bits_spec : {M : Type 1} → statement M
 by_bits_spec =

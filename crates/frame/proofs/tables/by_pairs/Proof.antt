@@ -36,10 +36,10 @@ loop-n-smaller : tie.Need-loop-n-smaller invariant-loop decreases-loop
 loop-n-smaller c = omega arith
 
 loop-n-preserved : tie.Need-loop-n-preserved invariant-loop decreases-loop
-loop-n-preserved c = (omega arith, more _ c.before.before.loop-n.invariant.1 (omega arith) (omega (arith, c.before.before.loop-n.invariant.1.long)) (ap (λ (v : ℕ). c.before.before.before.args.base + v) c.two_bits.ensures.0))
+loop-n-preserved c = (omega arith, more _ c.loop-n.invariant.1 (omega arith) (omega (arith, c.loop-n.invariant.1.long)) (ap (λ (v : ℕ). c.args.base + v) c.two_bits.ensures.0))
 
 returns : tie.Need-returns invariant-loop decreases-loop
-returns c = upto (omega arith) c.before.loop-n.invariant.1
+returns c = upto (omega arith) c.loop-n.invariant.1
 
 pub by_pairs_spec : {M : Type 1} → statement M
 by_pairs_spec =

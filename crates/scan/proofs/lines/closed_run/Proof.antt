@@ -11,8 +11,8 @@ run-n-requires c κs = search rules
 
 returns-then-n-lo : tie.Need-returns-then-n-lo
 returns-then-n-lo c =
-    let a = c.before.before.before.args in
-    let r = c.before.run-n in
+    let a = c.args in
+    let r = c.run-n in
     (closed_short (class_of a.class) a.lo a.hi a.end a.at a.s.now r.result r.ensures.0 c.if-n-lo.true, omega (arith, r.ensures.1))
 
 overflow_sub-s : tie.Need-overflow_sub-s
@@ -20,8 +20,8 @@ overflow_sub-s c = search rules
 
 returns-then-s-at : tie.Need-returns-then-s-at
 returns-then-s-at c =
-    let a = c.before.before.before.before.args in
-    let r = c.before.before.run-n in
+    let a = c.args in
+    let r = c.run-n in
     (closed_end (class_of a.class) a.lo a.hi a.end a.at a.s.now r.result r.ensures.0 (omega arith) c.if-s-at.true, omega (arith, r.ensures.1))
 
 overflow_add-at : tie.Need-overflow_add-at
@@ -35,14 +35,14 @@ overflow_add-result c = search rules
 
 returns-then-s-at-2 : tie.Need-returns-then-s-at-2
 returns-then-s-at-2 c =
-    let a = c.before.before.before.before.before.before.args in
-    let r = c.before.before.before.before.run-n in
+    let a = c.args in
+    let r = c.run-n in
     (closed_got (class_of a.class) a.lo a.hi a.end a.at a.s.now r.result r.ensures.0 (omega arith) (omega arith) c.if-s-at-2.true, omega (arith, r.ensures.1))
 
 returns-4 : tie.Need-returns
 returns-4 c =
-    let a = c.before.before.before.before.before.before.args in
-    let r = c.before.before.before.before.run-n in
+    let a = c.args in
+    let r = c.run-n in
     (closed_off (class_of a.class) a.lo a.hi a.end a.at a.s.now r.result r.ensures.0 (omega arith) (omega arith) c.if-s-at-2.false, omega (arith, r.ensures.1))
 
 pub closed_run_spec : {M : Type 1} → statement M

@@ -22,8 +22,8 @@ overflow_sub-s c = omega arith
 
 returns-then-s-at : tie.Need-returns-then-s-at invariant-loop decreases-loop
 returns-then-s-at c =
-    let l = c.before.before.loop-n in
-    let a = c.before.before.before.args in
+    let l = c.loop-n in
+    let a = c.args in
     (omega (arith, l.invariant.2, common_end a.key.now a.s.now l.n a.at (omega arith) (omega arith)), (omega arith, omega arith))
 
 overflow_add-at : tie.Need-overflow_add-at invariant-loop decreases-loop
@@ -37,8 +37,8 @@ bounds-key-n c = omega arith
 
 returns-then-s-at-2 : tie.Need-returns-then-s-at-2 invariant-loop decreases-loop
 returns-then-s-at-2 c =
-    let l = c.before.before.before.before.before.loop-n in
-    let a = c.before.before.before.before.before.before.args in
+    let l = c.loop-n in
+    let a = c.args in
     (omega (arith, l.invariant.2, common_off a.key.now a.s.now l.n a.at (omega arith) (omega arith) c.if-s-at-2.true), (omega arith, omega arith))
 
 overflow_add-n : tie.Need-overflow_add-n invariant-loop decreases-loop
@@ -49,14 +49,14 @@ loop-n-smaller c = omega arith
 
 loop-n-preserved : tie.Need-loop-n-preserved invariant-loop decreases-loop
 loop-n-preserved c =
-    let l = c.before.before.before.before.before.loop-n in
-    let a = c.before.before.before.before.before.before.args in
+    let l = c.loop-n in
+    let a = c.args in
     (omega arith, omega arith, omega (arith, l.invariant.2, common_more a.key.now a.s.now l.n a.at (omega arith) (omega arith) c.if-s-at-2.false))
 
 returns-3 : tie.Need-returns invariant-loop decreases-loop
 returns-3 c =
-    let l = c.before.loop-n in
-    let a = c.before.before.args in
+    let l = c.loop-n in
+    let a = c.args in
     (omega (arith, l.invariant.2, common_over a.key.now a.s.now l.n a.at (omega arith)), (omega arith, omega arith))
 
 pub common_bytes_spec : {M : Type 1} → statement M

@@ -47,19 +47,19 @@ within-requires-in-RuleDigit : tie.Need-within-requires-in-RuleDigit
 within-requires-in-RuleDigit c κs = search rules
 
 returns-in-Deed : tie.Need-returns-in-Deed
-returns-in-Deed c = rw (c.before.within.ensures, c.within-in-Deed.ensures) (of-class c.before.before.before.before.args.b c.before.before.in-Deed.is)
+returns-in-Deed c = rw (c.within.ensures, c.within-in-Deed.ensures) (of-class c.args.b c.in-Deed.is)
 
 returns-in-Hex : tie.Need-returns-in-Hex
-returns-in-Hex c = rw (c.before.within-in-Hex.ensures, c.within-in-Hex-2.ensures) (of-class c.before.before.before.before.args.b c.before.before.in-Hex.is)
+returns-in-Hex c = rw (c.within-in-Hex.ensures, c.within-in-Hex-2.ensures) (of-class c.args.b c.in-Hex.is)
 
 returns-in-Key : tie.Need-returns-in-Key
-returns-in-Key c = rw c.within-in-Key.ensures (of-class c.before.before.before.args.b c.before.in-Key.is)
+returns-in-Key c = rw c.within-in-Key.ensures (of-class c.args.b c.in-Key.is)
 
 returns-in-Value : tie.Need-returns-in-Value
-returns-in-Value c = sym (rw (le-leb c.before.before.args.b 255 (omega (arith, c.before.before.ranges.b)))) ∙ of-class c.before.before.args.b c.in-Value.is
+returns-in-Value c = sym (rw (le-leb c.args.b 255 (omega (arith, c.ranges.b)))) ∙ of-class c.args.b c.in-Value.is
 
 returns-in-RuleDigit : tie.Need-returns-in-RuleDigit
-returns-in-RuleDigit c = rw c.within-in-RuleDigit.ensures (of-class c.before.before.before.args.b c.before.in-RuleDigit.is)
+returns-in-RuleDigit c = rw c.within-in-RuleDigit.ensures (of-class c.args.b c.in-RuleDigit.is)
 
 pub in_class_spec : {M : Type 1} → statement M
 in_class_spec =

@@ -20,7 +20,7 @@ decreases-loop s at class most n₀ n = most - n
 
 loop-n-init : tie.Need-loop-n-init invariant-loop decreases-loop
 loop-n-init c =
-    let a = c.before.args in
+    let a = c.args in
     (omega arith, span_start (class_of a.class) a.most a.at a.s.now)
 
 overflow_sub-s : tie.Need-overflow_sub-s invariant-loop decreases-loop
@@ -28,8 +28,8 @@ overflow_sub-s c = omega arith
 
 returns-then-s-at : tie.Need-returns-then-s-at invariant-loop decreases-loop
 returns-then-s-at c =
-    let l = c.before.before.loop-n in
-    let a = c.before.before.before.before.args in
+    let l = c.loop-n in
+    let a = c.args in
     (omega (arith, l.invariant.1, span_end (class_of a.class) a.most l.n a.at a.s.now (omega arith)), omega arith)
 
 overflow_add-at : tie.Need-overflow_add-at invariant-loop decreases-loop
@@ -43,9 +43,9 @@ in_class-requires c κs = search rules
 
 returns-then-not-in_class : tie.Need-returns-then-not-in_class invariant-loop decreases-loop
 returns-then-not-in_class c =
-    let l = c.before.before.before.before.before.loop-n in
-    let a = c.before.before.before.before.before.before.before.args in
-    let e : class_of a.class (get_or a.s.now (a.at + l.n) 0) ≡ false = sym c.before.in_class.ensures ∙ not-true _ c.if-not-in_class.true in
+    let l = c.loop-n in
+    let a = c.args in
+    let e : class_of a.class (get_or a.s.now (a.at + l.n) 0) ≡ false = sym c.in_class.ensures ∙ c.if-not-in_class.true in
     (omega (arith, l.invariant.1, span_off (class_of a.class) a.most l.n a.at a.s.now (omega arith) (omega arith) e), omega arith)
 
 overflow_add-n : tie.Need-overflow_add-n invariant-loop decreases-loop
@@ -56,15 +56,15 @@ loop-n-smaller c = omega arith
 
 loop-n-preserved : tie.Need-loop-n-preserved invariant-loop decreases-loop
 loop-n-preserved c =
-    let l = c.before.before.before.before.before.loop-n in
-    let a = c.before.before.before.before.before.before.before.args in
-    let e : class_of a.class (get_or a.s.now (a.at + l.n) 0) ≡ true = sym c.before.in_class.ensures ∙ not-false _ c.if-not-in_class.false in
+    let l = c.loop-n in
+    let a = c.args in
+    let e : class_of a.class (get_or a.s.now (a.at + l.n) 0) ≡ true = sym c.in_class.ensures ∙ c.if-not-in_class.false in
     (omega arith, omega (arith, l.invariant.1, span_more (class_of a.class) a.most l.n a.at a.s.now (omega arith) (omega arith) e))
 
 returns-3 : tie.Need-returns invariant-loop decreases-loop
 returns-3 c =
-    let l = c.before.loop-n in
-    let a = c.before.before.before.args in
+    let l = c.loop-n in
+    let a = c.args in
     (omega (arith, l.invariant.1, span_over (class_of a.class) a.most l.n a.at a.s.now (omega arith) (drop (a.at + l.n) a.s.now)), omega arith)
 
 pub run_spec : {M : Type 1} → statement M

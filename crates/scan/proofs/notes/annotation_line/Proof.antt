@@ -16,32 +16,32 @@ use Rattle.scan.proofs.notes.annotation_line.Tie as tie
 
 -- the bytes from the line on, at the place where its key is whole
 abbrev line : tie.Else-not-key → List ℕ
-line c = let a = c.before.before.before.before.args in drop a.at a.s.now
+line c = let a = c.args in drop a.at a.s.now
 
 closed_run-key-requires : tie.Need-closed_run-key-requires
 closed_run-key-requires c κs = search rules
 
 returns-then-not-key : tie.Need-returns-then-not-key
 returns-then-not-key c =
-    let a = c.before.before.before.before.args in
+    let a = c.args in
     let l = drop a.at a.s.now in
-    let k = c.before.before.closed_run-key in
-    (key_stuck l k.result k.ensures.0 (not-true _ c.if-not-key.true), k.ensures.1)
+    let k = c.closed_run-key in
+    (key_stuck l k.result k.ensures.0 (c.if-not-key.true), k.ensures.1)
 
 is_free-requires : tie.Need-is_free-requires
 is_free-requires c κs = search rules
 
 overflow_sub-result : tie.Need-overflow_sub-result
 overflow_sub-result c =
-    let p = c.before.before.before in
-    let k = p.before.before.closed_run-key in
-    (key_read (line p) k.result k.ensures.0 (not-false _ p.if-not-key.false)).some
+    let p = c in
+    let k = p.closed_run-key in
+    (key_read (line c.before.before.before) k.result k.ensures.0 (p.if-not-key.false)).some
 
 returns-then-not-is_free : tie.Need-returns-then-not-is_free
 returns-then-not-is_free c =
-    let p = c.before.before.before in
-    let k = p.before.before.closed_run-key in
-    (key_taken (line p) k.result k.ensures.0 (not-false _ p.if-not-key.false) (sym c.before.before.is_free.ensures ∙ not-true _ c.before.if-not-is_free.true), omega (arith, k.ensures.1))
+    let p = c in
+    let k = p.closed_run-key in
+    (key_taken (line c.before.before.before) k.result k.ensures.0 (p.if-not-key.false) (sym c.is_free.ensures ∙ c.if-not-is_free.true), omega (arith, k.ensures.1))
 
 overflow_add-at : tie.Need-overflow_add-at
 overflow_add-at c = search rules
@@ -54,13 +54,13 @@ overflow_add-result c = search rules
 
 returns-3 : tie.Need-returns
 returns-3 c =
-    let q = c.before.before.before.before in
-    let p = q.before.before in
-    let a = p.before.before.before.before.args in
-    let k = p.before.before.closed_run-key in
-    let v = c.before.before.closed_run-value in
+    let q = c in
+    let p = c in
+    let a = p.args in
+    let k = p.closed_run-key in
+    let v = c.closed_run-value in
     let e = v.ensures.0 ∙ ap (λ (x : List ℕ). step_of (read_closed value_byte 0 120 10 x)) (sym (drop-drop k.result.size a.at a.s.now)) in
-    (key_free_lem (line p) k.result k.ensures.0 (not-false _ p.if-not-key.false) (sym q.before.is_free.ensures ∙ not-false _ q.if-not-is_free.false) v.result e, omega (arith, v.ensures.1))
+    (key_free_lem (line c.before.before.before.before.before.before) k.result k.ensures.0 (p.if-not-key.false) (sym q.is_free.ensures ∙ q.if-not-is_free.false) v.result e, omega (arith, v.ensures.1))
 
 pub annotation_line_spec : {M : Type 1} → statement M
 annotation_line_spec =

@@ -26,14 +26,14 @@ decreases-loop s from at₀ many₀ at many = length s - at
 abbrev turn : tie.After-struct_known-in-loop-at-1 invariant-loop decreases-loop → tie.At-loop-at invariant-loop decreases-loop
 turn c = c.before.before.before.before.before.before
 
-one : (c : tie.After-struct_known-in-loop-at-1 invariant-loop decreases-loop) → One (drop (turn c).loop-at.at (turn c).before.before.args.s.now) c.before.before.before.annotation_line-line.result.size
+one : (c : tie.After-struct_known-in-loop-at-1 invariant-loop decreases-loop) → One (drop (turn c).loop-at.at (turn c).args.s.now) c.annotation_line-line.result.size
 one c =
-    let r = c.before.before.before.annotation_line-line in
-    one_line (drop (turn c).loop-at.at (turn c).before.before.args.s.now) r.result r.ensures.0 (not-false _ c.before.if-not-line.false)
+    let r = c.annotation_line-line in
+    one_line (drop (turn c).loop-at.at (turn c).args.s.now) r.result r.ensures.0 (c.if-not-line.false)
 
 loop-at-init : tie.Need-loop-at-init invariant-loop decreases-loop
 loop-at-init c =
-    let a = c.before.args in
+    let a = c.args in
     let o = read_annotations (drop a.from a.s.now) in
     (omega arith, omega arith, omega arith, passed_none o o (a.from - a.from) refl (omega arith))
 
@@ -42,8 +42,8 @@ overflow_sub-result c = omega arith
 
 returns-then-many-ge200 : tie.Need-returns-then-many-ge200 invariant-loop decreases-loop
 returns-then-many-ge200 c =
-    let a = c.before.before.before.before.args in
-    let l = c.before.before.loop-at in
+    let a = c.args in
+    let l = c.loop-at in
     (ap (λ (j : ℕ). counted false j 0) (let q : l.at - a.from ≡ l.at - a.from + 0 = omega arith in q) ∙ lines_stuck (read_annotations (drop a.from a.s.now)) (read_up_to read_annotation (200 - l.many) (drop l.at a.s.now)) l.many (l.at - a.from) l.invariant.3 0 (up_to_full read_annotation a.s.now l.at (200 - l.many) (omega arith) (omega arith)), omega arith)
 
 annotation_line-line-requires : tie.Need-annotation_line-line-requires invariant-loop decreases-loop
@@ -53,30 +53,30 @@ overflow_sub-result-then-not-line : tie.Need-overflow_sub-result-then-not-line i
 overflow_sub-result-then-not-line c = omega arith
 
 overflow_add-result : tie.Need-overflow_add-result invariant-loop decreases-loop
-overflow_add-result c = omega (arith, c.before.before.before.annotation_line-line.ensures.1)
+overflow_add-result c = omega (arith, c.annotation_line-line.ensures.1)
 
 returns-then-not-line : tie.Need-returns-then-not-line invariant-loop decreases-loop
 returns-then-not-line c =
-    let t = c.before.before.before.before.before.before in
-    let a = t.before.before.args in
+    let t = c in
+    let a = t.args in
     let l = t.loop-at in
-    let r = c.before.before.before.annotation_line-line in
-    (lines_stuck (read_annotations (drop a.from a.s.now)) (read_up_to read_annotation (200 - l.many) (drop l.at a.s.now)) l.many (l.at - a.from) l.invariant.3 r.result.size (up_to_stuck read_annotation a.s.now l.at (200 - l.many) r.result.size (omega arith) (omega arith) (not_whole (read_annotation (drop l.at a.s.now)) r.result r.ensures.0 (not-true _ c.before.if-not-line.true))), omega (arith, r.ensures.1))
+    let r = c.annotation_line-line in
+    (lines_stuck (read_annotations (drop a.from a.s.now)) (read_up_to read_annotation (200 - l.many) (drop l.at a.s.now)) l.many (l.at - a.from) l.invariant.3 r.result.size (up_to_stuck read_annotation a.s.now l.at (200 - l.many) r.result.size (omega arith) (omega arith) (not_whole (read_annotation (drop l.at a.s.now)) r.result r.ensures.0 (c.if-not-line.true))), omega (arith, r.ensures.1))
 
 overflow_add-at : tie.Need-overflow_add-at invariant-loop decreases-loop
-overflow_add-at c = omega (arith, c.before.before.before.annotation_line-line.ensures.1)
+overflow_add-at c = omega (arith, c.annotation_line-line.ensures.1)
 
 overflow_add-many : tie.Need-overflow_add-many invariant-loop decreases-loop
 overflow_add-many c = omega arith
 
 loop-at-smaller : tie.Need-loop-at-smaller invariant-loop decreases-loop
-loop-at-smaller c = omega (arith, (one c).some, c.before.before.before.annotation_line-line.ensures.1)
+loop-at-smaller c = omega (arith, (one c).some, c.annotation_line-line.ensures.1)
 
 loop-at-preserved : tie.Need-loop-at-preserved invariant-loop decreases-loop
 loop-at-preserved c =
-    let a = (turn c).before.before.args in
+    let a = (turn c).args in
     let l = (turn c).loop-at in
-    let r = c.before.before.before.annotation_line-line in
+    let r = c.annotation_line-line in
     let n = r.result.size in
     let o = read_annotations (drop a.from a.s.now) in (
       omega arith,
@@ -91,8 +91,8 @@ overflow_sub-result-2 c = omega arith
 
 returns-3 : tie.Need-returns invariant-loop decreases-loop
 returns-3 c =
-    let a = c.before.before.before.args in
-    let l = c.before.loop-at in
+    let a = c.args in
+    let l = c.loop-at in
     (lines_all (read_annotations (drop a.from a.s.now)) (read_up_to read_annotation (200 - l.many) (drop l.at a.s.now)) l.many (l.at - a.from) l.invariant.3 (up_to_end read_annotation a.s.now l.at (200 - l.many) (omega arith)), omega arith)
 
 pub annotation_lines_spec : {M : Type 1} → statement M

@@ -20,30 +20,30 @@ abbrev decreases-loop : tie.decreases-loop-k
 decreases-loop s from n at₀ k₀ at k = n - k
 
 -- the line that this turn passes, and where it ends
-here : (c : tie.In-loop-k invariant-loop decreases-loop) → LineIn c.before.before.before.args.s.now c.before.loop-k.k
-here c = line_in c.before.before.before.args.s.now c.before.loop-k.k c.before.before.before.requires.0 (omega (arith, c.before.before.before.requires.1.1))
+here : (c : tie.In-loop-k invariant-loop decreases-loop) → LineIn c.args.s.now c.loop-k.k
+here c = line_in c.args.s.now c.loop-k.k c.requires.0 (omega (arith, c.requires.1.1))
 
-turn : (c : tie.After-struct_known-1 invariant-loop decreases-loop) → c.before.before.before.loop-k.at + c.before.annotation_line-line.result.size ≡ tail_from c.before.before.before.before.before.args.s.now + length (lines (take (c.before.before.before.loop-k.k + 1) (fields_in c.before.before.before.before.before.args.s.now).annotations))
+turn : (c : tie.After-struct_known-1 invariant-loop decreases-loop) → c.loop-k.at + c.annotation_line-line.result.size ≡ tail_from c.args.s.now + length (lines (take (c.loop-k.k + 1) (fields_in c.args.s.now).annotations))
 turn c =
-    let s = c.before.before.before.before.before.args.s.now in
-    let l = c.before.before.before.loop-k in
-    let r = c.before.annotation_line-line in
+    let s = c.args.s.now in
+    let l = c.loop-k in
+    let r = c.annotation_line-line in
     let h = here c.before.before in
     let n : r.result.size ≡ length (line h.value) + 1 = ap (λ (x : Step). x.size) (r.ensures.0 ∙ ap (λ (j : ℕ). step_of (read_annotation (drop j s))) l.invariant.1 ∙ ap step_of h.read) in
     omega (arith, n, l.invariant.1, h.next)
 
 loop-k-init : tie.Need-loop-k-init invariant-loop decreases-loop
-loop-k-init c = (omega arith, c.before.requires.1.0 ∙ omega arith)
+loop-k-init c = (omega arith, c.requires.1.0 ∙ omega arith)
 
 annotation_line-line-requires : tie.Need-annotation_line-line-requires invariant-loop decreases-loop
-annotation_line-line-requires c κs = omega (arith, (here c).within, c.before.loop-k.invariant.1)
+annotation_line-line-requires c κs = omega (arith, (here c).within, c.loop-k.invariant.1)
 
 overflow_add-at : tie.Need-overflow_add-at invariant-loop decreases-loop
 overflow_add-at c = omega (arith, turn c, (here c.before.before).within)
 
 overflow_add-k : tie.Need-overflow_add-k invariant-loop decreases-loop
 overflow_add-k c =
-    let b = c.before.before.before.before.before in
+    let b = c in
     omega (arith, b.requires.1.1, few_lines b.args.s.now b.requires.0)
 
 loop-k-smaller : tie.Need-loop-k-smaller invariant-loop decreases-loop
@@ -54,9 +54,9 @@ loop-k-preserved c = (omega arith, turn c)
 
 returns : tie.Need-returns invariant-loop decreases-loop
 returns c =
-    let a = c.before.before.before.args in
-    let l = c.before.loop-k in
-    l.invariant.1 ∙ ap (λ (j : ℕ). tail_from a.s.now + length (lines (take j (fields_in a.s.now).annotations))) (let q : l.k ≡ a.n = omega arith in q) ∙ sym (line_from a.s.now a.n c.before.before.before.requires.1.1)
+    let a = c.args in
+    let l = c.loop-k in
+    l.invariant.1 ∙ ap (λ (j : ℕ). tail_from a.s.now + length (lines (take j (fields_in a.s.now).annotations))) (let q : l.k ≡ a.n = omega arith in q) ∙ sym (line_from a.s.now a.n c.requires.1.1)
 
 pub annotation_start_spec : {M : Type 1} → statement M
 annotation_start_spec =

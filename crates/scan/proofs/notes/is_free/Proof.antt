@@ -16,7 +16,7 @@ is_key-at_key-requires : tie.Need-is_key-at_key-requires
 is_key-at_key-requires c κs = search rules
 
 returns : tie.Need-returns
-returns c = rw (c.before.before.before.before.before.before.is_key-deed.ensures, c.before.before.before.before.is_key-pins.ensures, c.before.before.is_key-writes.ensures, c.is_key-at_key.ensures)
+returns c = rw (c.is_key-deed.ensures, c.is_key-pins.ensures, c.is_key-writes.ensures, c.is_key-at_key.ensures)
 
 pub is_free_spec : {M : Type 1} → statement M
 is_free_spec =

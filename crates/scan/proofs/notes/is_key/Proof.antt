@@ -10,12 +10,12 @@ common_bytes-requires c κs = search rules
 
 returns-then-n-key : tie.Need-returns-then-n-key
 returns-then-n-key c =
-    let a = c.before.before.before.before.args in
+    let a = c.args in
     word_same a.s.now a.at a.n a.key.now (omega arith) (omega arith) c.common_bytes.result c.common_bytes.ensures.0
 
 returns-2 : tie.Need-returns
 returns-2 c =
-    let a = c.before.before.before.args in
+    let a = c.args in
     word_other a.s.now a.at a.n a.key.now (omega arith) c.if-n-key.false
 
 pub is_key_spec : {M : Type 1} → statement M

@@ -7,7 +7,7 @@ use Rattle.scan.proofs.numbers.closing.Tie as tie
 
 returns-then-s-at : tie.Need-returns-then-s-at
 returns-then-s-at c =
-    let a = c.before.args in
+    let a = c.args in
     (closing_end a.s.now a.at a.v c.if-s-at.true, omega arith)
 
 bounds-s-at : tie.Need-bounds-s-at
@@ -15,12 +15,12 @@ bounds-s-at c = search rules
 
 returns-then-s-at-eq10 : tie.Need-returns-then-s-at-eq10
 returns-then-s-at-eq10 c =
-    let a = c.before.before.before.args in
+    let a = c.args in
     (closing_got a.s.now a.at a.v (omega arith) c.if-s-at-eq10.true, omega arith)
 
 returns-3 : tie.Need-returns
 returns-3 c =
-    let a = c.before.before.before.args in
+    let a = c.args in
     (closing_off a.s.now a.at a.v (omega arith) c.if-s-at-eq10.false, omega arith)
 
 pub closing_spec : {M : Type 1} → statement M

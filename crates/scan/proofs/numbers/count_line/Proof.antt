@@ -13,8 +13,8 @@ common_bytes-n-requires c κs = search rules
 
 returns-then-n-lt7 : tie.Need-returns-then-n-lt7
 returns-then-n-lt7 c =
-    let a = c.before.before.before.before.args in
-    let r = c.before.common_bytes-n in
+    let a = c.args in
+    let r = c.common_bytes-n in
     (led_count_short (writes_word ++ eq) a.s.now a.at r.result r.ensures.0 read_number c.if-n-lt7.true, omega (arith, r.ensures.1.1))
 
 overflow_add-at : tie.Need-overflow_add-at
@@ -28,9 +28,9 @@ overflow_add-result c = search rules
 
 returns-2 : tie.Need-returns
 returns-2 c =
-    let a = c.before.before.before.before.before.before.args in
-    let r = c.before.before.before.common_bytes-n in
-    let number = c.before.write_number-number in
+    let a = c.args in
+    let r = c.common_bytes-n in
+    let number = c.write_number-number in
     (led_count (writes_word ++ eq) a.s.now a.at r.result r.ensures.0 read_number (omega arith) r.ensures.1.0 number.result number.ensures.0, omega (arith, number.ensures.1))
 
 pub count_line_spec : {M : Type 1} → statement M

@@ -6,13 +6,13 @@ use Rattle.scan.proofs.numbers.digit_of.Statement.{statement}
 use Rattle.scan.proofs.numbers.digit_of.Tie as tie
 
 overflow_sub-result : tie.Need-overflow_sub-result
-overflow_sub-result c = lowest c.before.args.b c.before.requires
+overflow_sub-result c = lowest c.args.b c.requires
 
 overflow_cast-result : tie.Need-overflow_cast-result
 overflow_cast-result c = search rules
 
 returns-then-b-lt58 : tie.Need-returns-then-b-lt58
-returns-then-b-lt58 c = rw (lt-ltb c.before.args.b 58 c.if-b-lt58.true)
+returns-then-b-lt58 c = rw (lt-ltb c.args.b 58 c.if-b-lt58.true)
 
 overflow_sub-result-2 : tie.Need-overflow_sub-result-2
 overflow_sub-result-2 c = search rules
@@ -21,7 +21,7 @@ overflow_cast-result-2 : tie.Need-overflow_cast-result-2
 overflow_cast-result-2 c = search rules
 
 returns-2 : tie.Need-returns
-returns-2 c = rw (le-ltb c.before.args.b 58 c.if-b-lt58.false)
+returns-2 c = rw (le-ltb c.args.b 58 c.if-b-lt58.false)
 
 pub digit_of_spec : {M : Type 1} → statement M
 digit_of_spec =

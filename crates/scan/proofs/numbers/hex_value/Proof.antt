@@ -20,15 +20,15 @@ decreases-loop s at n v₀ i₀ v i = n - i
 -- the digit that is read is below 16
 digit_lt : (c : tie.After-digit_of invariant-loop decreases-loop) → c.digit_of.result < 16
 digit_lt c =
-    let a = c.before.before.before.before.before.args in
-    let b = (digit_at a.s.now a.at a.n c.before.before.before.loop-i.i (omega arith) (omega arith) c.before.before.before.before.before.requires.1).1 in
-    subst (λ (x : ℕ). x < 16) (sym c.digit_of.ensures) (hex_byte_lem (get_or a.s.now (a.at + c.before.before.before.loop-i.i) 0) b).0
+    let a = c.args in
+    let b = (digit_at a.s.now a.at a.n c.loop-i.i (omega arith) (omega arith) c.requires.1).1 in
+    subst (λ (x : ℕ). x < 16) (sym c.digit_of.ensures) (hex_byte_lem (get_or a.s.now (a.at + c.loop-i.i) 0) b).0
 
 loop-i-init : tie.Need-loop-i-init invariant-loop decreases-loop
 loop-i-init c = (omega arith, omega arith, refl)
 
 overflow_mul-v : tie.Need-overflow_mul-v invariant-loop decreases-loop
-overflow_mul-v c = omega (arith, bound_four c.before.loop-i.v c.before.loop-i.i (omega arith) c.before.loop-i.invariant.1)
+overflow_mul-v c = omega (arith, bound_four c.loop-i.v c.loop-i.i (omega arith) c.loop-i.invariant.1)
 
 overflow_add-at : tie.Need-overflow_add-at invariant-loop decreases-loop
 overflow_add-at c = omega arith
@@ -38,11 +38,11 @@ bounds-s-at c = omega arith
 
 digit_of-requires : tie.Need-digit_of-requires invariant-loop decreases-loop
 digit_of-requires c κs =
-    let a = c.before.before.before.before.args in
-    (digit_at a.s.now a.at a.n c.before.before.loop-i.i (omega arith) (omega arith) c.before.before.before.before.requires.1).1
+    let a = c.args in
+    (digit_at a.s.now a.at a.n c.loop-i.i (omega arith) (omega arith) c.requires.1).1
 
 overflow_add-v : tie.Need-overflow_add-v invariant-loop decreases-loop
-overflow_add-v c = omega (arith, digit_lt c, bound_four c.before.before.before.loop-i.v c.before.before.before.loop-i.i (omega arith) c.before.before.before.loop-i.invariant.1)
+overflow_add-v c = omega (arith, digit_lt c, bound_four c.loop-i.v c.loop-i.i (omega arith) c.loop-i.invariant.1)
 
 overflow_add-i : tie.Need-overflow_add-i invariant-loop decreases-loop
 overflow_add-i c = omega arith
@@ -52,9 +52,9 @@ loop-i-smaller c = omega arith
 
 loop-i-preserved : tie.Need-loop-i-preserved invariant-loop decreases-loop
 loop-i-preserved c =
-    let a = c.before.before.before.before.before.args in
-    let l = c.before.before.before.loop-i in
-    let d = digit_at a.s.now a.at a.n l.i (omega arith) (omega arith) c.before.before.before.before.before.requires.1 in
+    let a = c.args in
+    let l = c.loop-i in
+    let d = digit_at a.s.now a.at a.n l.i (omega arith) (omega arith) c.requires.1 in
     let w = take a.n (drop a.at a.s.now) in (
       omega arith,
       bound_more l.v c.digit_of.result l.i l.invariant.1 (digit_lt c),
@@ -63,8 +63,8 @@ loop-i-preserved c =
 
 returns : tie.Need-returns invariant-loop decreases-loop
 returns c =
-    let a = c.before.before.before.args in
-    let l = c.before.loop-i in
+    let a = c.args in
+    let l = c.loop-i in
     sym (value_all (take a.n (drop a.at a.s.now)) l.i l.v (omega (arith, length-take-le a.n (drop a.at a.s.now) (omega (arith, length-drop a.at a.s.now))))) ∙ l.invariant.2
 
 pub hex_value_spec : {M : Type 1} → statement M

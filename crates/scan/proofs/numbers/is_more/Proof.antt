@@ -8,8 +8,8 @@ use Rattle.scan.proofs.numbers.is_more.Statement.{statement}
 use Rattle.scan.proofs.numbers.is_more.Tie as tie
 
 -- c is a digit
-digits : (c : tie.Then-within) → (48 ≤ c.before.before.args.c) × (c.before.before.args.c ≤ 57)
-digits c = between_le 48 57 c.before.before.args.c (sym c.before.within.ensures ∙ c.if-within.true)
+digits : (c : tie.Then-within) → (48 ≤ c.args.c) × (c.args.c ≤ 57)
+digits c = between_le 48 57 c.args.c (sym c.within.ensures ∙ c.if-within.true)
 
 within-requires : tie.Need-within-requires
 within-requires c κs = search rules
@@ -24,10 +24,10 @@ overflow_add-result : tie.Need-overflow_add-result
 overflow_add-result c = omega (arith, digits c)
 
 returns-then-within : tie.Need-returns-then-within
-returns-then-within c = rw (sym c.before.within.ensures, c.if-within.true)
+returns-then-within c = rw (sym c.within.ensures, c.if-within.true)
 
 returns-2 : tie.Need-returns
-returns-2 c = rw (sym c.before.within.ensures, c.if-within.false)
+returns-2 c = rw (sym c.within.ensures, c.if-within.false)
 
 pub is_more_spec : {M : Type 1} → statement M
 is_more_spec =

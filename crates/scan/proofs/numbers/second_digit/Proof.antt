@@ -10,15 +10,15 @@ use Rattle.scan.proofs.numbers.second_digit.Statement.{statement}
 use Rattle.scan.proofs.numbers.second_digit.Tie as tie
 
 -- the byte after the first digit is a digit
-digits : (c : tie.Then-is_more) → (48 ≤ get_or c.before.before.before.before.before.args.s.now c.before.before.before.before.before.args.at 0) × (get_or c.before.before.before.before.before.args.s.now c.before.before.before.before.before.args.at 0 ≤ 57)
+digits : (c : tie.Then-is_more) → (48 ≤ get_or c.args.s.now c.args.at 0) × (get_or c.args.s.now c.args.at 0 ≤ 57)
 digits c =
-    let a = c.before.before.before.before.before.args in
-    let m = more_le a.d (get_or a.s.now a.at 0) (sym c.before.is_more.ensures ∙ c.if-is_more.true) in
+    let a = c.args in
+    let m = more_le a.d (get_or a.s.now a.at 0) (sym c.is_more.ensures ∙ c.if-is_more.true) in
     (m.0, m.1)
 
 returns-then-s-at : tie.Need-returns-then-s-at
 returns-then-s-at c =
-    let a = c.before.before.args in
+    let a = c.args in
     (second_end a.s.now a.at a.d c.if-s-at.true, omega arith)
 
 bounds-s-at : tie.Need-bounds-s-at
@@ -43,22 +43,22 @@ closing-end-requires : tie.Need-closing-end-requires
 closing-end-requires c κs = search rules
 
 overflow_add-result : tie.Need-overflow_add-result
-overflow_add-result c = omega (arith, c.before.closing-end.ensures.1)
+overflow_add-result c = omega (arith, c.closing-end.ensures.1)
 
 returns-then-is_more : tie.Need-returns-then-is_more
 returns-then-is_more c =
-    let a = c.before.before.before.before.before.before.before.args in
-    let end = c.before.closing-end in
-    (second_more a.s.now a.at a.d (omega arith) (sym c.before.before.before.is_more.ensures ∙ c.before.before.if-is_more.true) end.result end.ensures.0, omega (arith, end.ensures.1))
+    let a = c.args in
+    let end = c.closing-end in
+    (second_more a.s.now a.at a.d (omega arith) (sym c.is_more.ensures ∙ c.if-is_more.true) end.result end.ensures.0, omega (arith, end.ensures.1))
 
 closing-requires-2 : tie.Need-closing-requires
 closing-requires-2 c κs = search rules
 
 returns-3 : tie.Need-returns
 returns-3 c =
-    let a = c.before.before.before.before.before.before.args in
+    let a = c.args in
     let end = c.closing in
-    (second_less a.s.now a.at a.d (omega arith) (sym c.before.before.is_more.ensures ∙ c.before.if-is_more.false) end.result end.ensures.0, end.ensures.1)
+    (second_less a.s.now a.at a.d (omega arith) (sym c.is_more.ensures ∙ c.if-is_more.false) end.result end.ensures.0, end.ensures.1)
 
 pub second_digit_spec : {M : Type 1} → statement M
 second_digit_spec =

@@ -8,15 +8,15 @@ use Rattle.scan.proofs.rules.rule_line.Tie as tie
 
 -- where a byte of the key stands, and the line is read
 abbrev begun : tie.After-struct_known-1 → tie.Else-common_bytes-eq0
-begun c = c.before.before.before
+begun c = c.before.before.before.before
 
 common_bytes-requires : tie.Need-common_bytes-requires
 common_bytes-requires c κs = search rules
 
 returns-then-common_bytes-eq0 : tie.Need-returns-then-common_bytes-eq0
 returns-then-common_bytes-eq0 c =
-    let a = c.before.before.before.before.args in
-    let n = c.before.common_bytes in
+    let a = c.args in
+    let n = c.common_bytes in
     (no_line a.s.now a.at n.result n.ensures.0 c.if-common_bytes-eq0.true, omega arith)
 
 keyed_line-line-requires : tie.Need-keyed_line-line-requires
@@ -27,32 +27,32 @@ returns-then-not-line c =
     let k = begun c.before in
     let a = k.before.before.before.before.args in
     let n = k.before.common_bytes in
-    let r = c.before.before.keyed_line-line in
-    (broken_line a.s.now a.at n.result n.ensures.0 k.if-common_bytes-eq0.left r.result r.ensures.0 (not-true _ c.if-not-line.true), r.ensures.1)
+    let r = c.keyed_line-line in
+    (broken_line a.s.now a.at n.result n.ensures.0 k.if-common_bytes-eq0.left r.result r.ensures.0 (c.if-not-line.true), r.ensures.1)
 
 overflow_add-at : tie.Need-overflow_add-at
 overflow_add-at c = search rules
 
 bounds-s-at : tie.Need-bounds-s-at
 bounds-s-at c =
-    let e = c.before in
-    let k = begun e.before in
+    let e = c in
+    let k = begun c.before.before in
     let a = k.before.before.before.before.args in
     let n = k.before.common_bytes in
-    let r = e.before.before.keyed_line-line in
-    omega (arith, (whole_field a.s.now a.at n.result n.ensures.0 k.if-common_bytes-eq0.left r.result r.ensures.0 (not-false _ e.if-not-line.false)).long, r.ensures.1)
+    let r = e.keyed_line-line in
+    omega (arith, (whole_field a.s.now a.at n.result n.ensures.0 k.if-common_bytes-eq0.left r.result r.ensures.0 (e.if-not-line.false)).long, r.ensures.1)
 
 rule_of-rule-requires : tie.Need-rule_of-rule-requires
 rule_of-rule-requires c κs = search rules
 
 returns-3 : tie.Need-returns
 returns-3 c =
-    let e = c.before.before in
-    let k = begun e.before in
+    let e = c in
+    let k = begun c.before.before.before in
     let a = k.before.before.before.before.args in
     let n = k.before.common_bytes in
-    let r = e.before.before.keyed_line-line in
-    (whole_line a.s.now a.at n.result n.ensures.0 k.if-common_bytes-eq0.left r.result r.ensures.0 (not-false _ e.if-not-line.false) c.rule_of-rule.result c.rule_of-rule.ensures, r.ensures.1)
+    let r = e.keyed_line-line in
+    (whole_line a.s.now a.at n.result n.ensures.0 k.if-common_bytes-eq0.left r.result r.ensures.0 (e.if-not-line.false) c.rule_of-rule.result c.rule_of-rule.ensures, r.ensures.1)
 
 pub rule_line_spec : {M : Type 1} → statement M
 rule_line_spec =
