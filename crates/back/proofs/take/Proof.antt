@@ -25,7 +25,7 @@ fits : (s : tie.Start) → BackFits s.args.look (length s.args.strip.now) (lengt
 fits s = lengths_fit s.args.look (length s.args.strip.now) (length s.args.frame.now) s.requires
 
 -- the bytes that are gathered are enough for a strip
-gathered-long : (c : tie.After-gather) → strip_length c.args.look ≤ length c.gather.new.1.1.0
+gathered-long : (c : tie.After-gather) → strip_length c.args.look ≤ length c.gather.new.strip
 gathered-long c = omega (arith, c.gather.ensures.long, length-replicate {A = ℕ} 6144 0, width_le c.args.look)
 
 slice_bounds-gather-end : tie.Need-slice_bounds-gather-end
@@ -69,7 +69,7 @@ returns-2 c =
     let l = s.args.look in
     let n = d.strip_length-length.ensures in
     let f = d.first_stray-k.ensures in
-    let kept = stored (read_byte l s.args.frame.now) (strip_length l) (gather-of c.before.before.before.before.before.before.before.before).gather.new.1.1.0 s.args.strip.now n (gathered-long (gather-of c.before.before.before.before.before.before.before.before)) (fits s).strip_long (λ k h. (gather-of c.before.before.before.before.before.before.before.before).gather.ensures.is k zero-le h) c.store.ensures in
+    let kept = stored (read_byte l s.args.frame.now) (strip_length l) (gather-of c.before.before.before.before.before.before.before.before).gather.new.strip s.args.strip.now n (gathered-long (gather-of c.before.before.before.before.before.before.before.before)) (fits s).strip_long (λ k h. (gather-of c.before.before.before.before.before.before.before.before).gather.ensures.is k zero-le h) c.store.ensures in
     let k = told_clean l s.args.frame.now s.args.strip.now s.requires (rw f at d.if-k-lt-FRAME_LENGTH.false) kept in
     (ap done n ∙ k.0, k.1)
 

@@ -80,7 +80,7 @@ returns-2 c =
     let i = start_of c.before.before.before.before.before.before.before.before.before.before in
     let a = i.args in
     let f = (fetch-of c.before.before.before.before.before.before.before.before.before.before).fetch.ensures.1.1 in
-    let kept = stored (fetched_byte a.settings a.image.now) (strip_length a.settings.look) (fetch-of c.before.before.before.before.before.before.before.before.before.before).fetch.new.1.1.0 a.strip.now c.strip_length.ensures (omega (arith, ap (λ (x : List ℕ). length x) f, fetched-long c.before.before.before.before.before.before.before.before.before.before)) (strip_long a.settings a.image.now a.font.now a.strip.now a.frame.now i.requires) (λ k h. ap (λ (x : List ℕ). get_or x k 0) f ∙ fetched_byte_lem a.settings a.image.now a.font.now a.strip.now a.frame.now i.requires room (long a.settings) k h) c.store.ensures in
+    let kept = stored (fetched_byte a.settings a.image.now) (strip_length a.settings.look) (fetch-of c.before.before.before.before.before.before.before.before.before.before).fetch.new.strip a.strip.now c.strip_length.ensures (omega (arith, ap (λ (x : List ℕ). length x) f, fetched-long c.before.before.before.before.before.before.before.before.before.before)) (strip_long a.settings a.image.now a.font.now a.strip.now a.frame.now i.requires) (λ k h. ap (λ (x : List ℕ). get_or x k 0) f ∙ fetched_byte_lem a.settings a.image.now a.font.now a.strip.now a.frame.now i.requires room (long a.settings) k h) c.store.ensures in
     shown_stored a.settings a.image.now a.font.now a.strip.now a.frame.now i.requires room (long a.settings) f d.draw-answer.ensures.0 d.draw-answer.ensures.1
     (sym e.number.ensures ∙ e.if-number-ne0.false) kept
 

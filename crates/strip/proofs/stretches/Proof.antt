@@ -107,7 +107,7 @@ overflow_mul-n-in-loop-n c = omega (arith, fits (turn-of c))
 overflow_add-n : tie.Need-overflow_add-n invariant-loop decreases-loop
 overflow_add-n c =
     let t = turn-of c in
-    omega (arith, t.loop-n-test.taken, (lasts-of t.before).line_lasts-lasts.ensures, lines_le (start_of t.before).args.settings)
+    omega (arith, t.loop-n-test.true, (lasts-of t.before).line_lasts-lasts.ensures, lines_le (start_of t.before).args.settings)
 
 overflow_mul-n-in-loop-n-2 : tie.Need-overflow_mul-n-in-loop-n-2 invariant-loop decreases-loop
 overflow_mul-n-in-loop-n-2 c = omega (arith, fits (turn-of c))
@@ -121,7 +121,7 @@ repeat_line-requires c κs =
       mul-mod_left n wide,
       mul-mod_left (n + (lasts-of t.before).line_lasts-lasts.result) wide,
       (fits t).0,
-      omega (arith, fits t, t.before.loop-n.inv.stored.long, c.read_line-touched.ensures.1.long),
+      omega (arith, fits t, t.before.loop-n.invariant.stored.long, c.read_line-touched.ensures.1.long),
     )
 
 wrapping_add_u16-address-requires : tie.Need-wrapping_add_u16-address-requires invariant-loop decreases-loop
@@ -134,12 +134,12 @@ made_of c = c.before.before.before
 overflow_add-n-in-loop-n : tie.Need-overflow_add-n-in-loop-n invariant-loop decreases-loop
 overflow_add-n-in-loop-n c =
     let t = turn-of (made_of c).before in
-    omega (arith, t.loop-n-test.taken, (lasts-of t.before).line_lasts-lasts.ensures, lines_le (start_of t.before).args.settings)
+    omega (arith, t.loop-n-test.true, (lasts-of t.before).line_lasts-lasts.ensures, lines_le (start_of t.before).args.settings)
 
 loop-n-smaller : tie.Need-loop-n-smaller invariant-loop decreases-loop
 loop-n-smaller c =
     let t = turn-of (made_of c).before in
-    omega (arith, t.loop-n-test.taken, (lasts-of t.before).line_lasts-lasts.ensures, lines_some (start_of t.before).args.settings)
+    omega (arith, t.loop-n-test.true, (lasts-of t.before).line_lasts-lasts.ensures, lines_some (start_of t.before).args.settings)
 
 loop-n-preserved : tie.Need-loop-n-preserved invariant-loop decreases-loop
 loop-n-preserved c =
@@ -148,7 +148,7 @@ loop-n-preserved c =
     let b = start_of t.before in
     let r = m.before.before.before.before in
     next_stretch b.args.settings b.requires.3 b.args.image.now (wide_of t.before).width-wide.ensures (lasts-of t.before).line_lasts-lasts.ensures r.before.before.place-from.ensures t.before.before.before.line_step-step.ensures
-    t.before.loop-n.inv t.loop-n-test.taken r.read_line-touched.ensures.1 m.repeat_line.ensures c.wrapping_add_u16-address.ensures (ap (λ (k : ℕ). t.before.loop-n.touched + k) r.read_line-touched.ensures.0)
+    t.before.loop-n.invariant t.loop-n-test.true r.read_line-touched.ensures.1 m.repeat_line.ensures c.wrapping_add_u16-address.ensures (ap (λ (k : ℕ). t.before.loop-n.touched + k) r.read_line-touched.ensures.0)
 
 shape_of-strip : tie.Need-shape_of-strip invariant-loop decreases-loop
 shape_of-strip c = c.loop-n.invariant.stored.long

@@ -58,7 +58,7 @@ overflow_add-n : tie.Need-overflow_add-n invariant-loop decreases-loop
 overflow_add-n c = omega arith
 
 tint-requires : tie.Need-tint-requires invariant-loop decreases-loop
-tint-requires c κs = ((c.ink.ensures.1, omega (arith, (turn c.before).loop-c.inv.1.long)), (turn c.before).requires.1)
+tint-requires c κs = ((c.ink.ensures.1, omega (arith, (turn c.before).loop-c.invariant.1.long)), (turn c.before).requires.1)
 
 overflow_add-c : tie.Need-overflow_add-c invariant-loop decreases-loop
 overflow_add-c c = omega arith
@@ -74,7 +74,7 @@ loop-c-preserved c =
     let w = c in (
       omega arith,
       upto (omega arith)
-          (join {n = s.args.n * 256 + l.loop-c.c * 8 + 8} (omega arith) (omega arith) l.loop-c.inv.1
+          (join {n = s.args.n * 256 + l.loop-c.c * 8 + 8} (omega arith) (omega arith) l.loop-c.invariant.1
           (by (typed_cell s.args.look s.args.glyphs.now s.args.strip.now s.args.n l.loop-c.c i.ink.result _ (omega arith) i.ink.ensures.0 (ap (λ (j : ℕ). get_or s.args.glyphs.now (j * 12 + s.args.n % 12) 0) w.wide.ensures.0)) c.tint.ensures)),
     )
 
