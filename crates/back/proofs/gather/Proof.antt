@@ -4,6 +4,7 @@ use mathlib.Core.Logic.{⊎_elim}
 use mathlib.Core.Path.{◌≡◌, sym, ap, ◌∙◌}
 use native.Mathlib.Omega.{arith}
 use borrow.Author.Rules.{rules}
+use borrow.Author.Tests.{eq-eqb, ne_eqb}
 use Rattle.pixel.proofs.Pins.{gm_low}
 use Rattle.settings.proofs.Widths.{width_cases}
 use Rattle.settings.specs.Modes.{width}
@@ -46,10 +47,9 @@ shape_of-strip-then-bits c = search rules
 
 returns-then-bits : tie.Need-returns-then-bits
 returns-then-bits c =
-    let t = c in
     let s = start_of c.before.before.before.before.before.before in
     let w = is_32 c.before.before.before.before.before in
-    by (λ i _ _. as_bits s.args.look s.requires.0 1 (rw (t.gm.ensures, gm_low s.args.look) at c.if-bits.true) (ap (λ (m : ℕ). 256 / m) w) s.args.frame.now i)
+    by (λ i _ _. as_bits s.args.look s.requires.0 1 (eq-eqb _ _ (rw (c.gm.ensures, gm_low s.args.look) at c.if-bits.true)) (ap (λ (m : ℕ). 256 / m) w) s.args.frame.now i)
     (upto (ap (λ (m : ℕ). 192 * m) (sym w)) c.lines.ensures)
 
 shape_of-strip-else-bits : tie.Need-shape_of-strip-else-bits
@@ -57,10 +57,9 @@ shape_of-strip-else-bits c = search rules
 
 returns-else-bits : tie.Need-returns-else-bits
 returns-else-bits c =
-    let t = c in
     let s = start_of c.before.before.before.before.before.before in
     let w = is_32 c.before.before.before.before.before in
-    by (λ i _ _. as_pairs s.args.look s.requires.0 2 (rw (t.gm.ensures, gm_low s.args.look) at c.if-bits.false) (ap (λ (m : ℕ). 256 / m) w) s.args.frame.now i)
+    by (λ i _ _. as_pairs s.args.look s.requires.0 2 (ne_eqb _ _ (rw (c.gm.ensures, gm_low s.args.look) at c.if-bits.false)) (ap (λ (m : ℕ). 256 / m) w) s.args.frame.now i)
     (upto (ap (λ (m : ℕ). 192 * m) (sym w)) c.lines-else-bits.ensures)
 
 shape_of-strip-then-bits-2 : tie.Need-shape_of-strip-then-bits-2
@@ -68,10 +67,9 @@ shape_of-strip-then-bits-2 c = search rules
 
 returns-then-bits-2 : tie.Need-returns-then-bits-2
 returns-then-bits-2 c =
-    let t = c in
     let s = start_of c.before.before.before.before.before.before in
     let w = is-16 c.before.before.before.before.before in
-    by (λ i _ _. as_bits s.args.look s.requires.0 2 (rw (t.gm.ensures, gm_low s.args.look) at c.if-bits-2.true) (ap (λ (m : ℕ). 256 / m) w) s.args.frame.now i)
+    by (λ i _ _. as_bits s.args.look s.requires.0 2 (eq-eqb _ _ (rw (c.gm.ensures, gm_low s.args.look) at c.if-bits-2.true)) (ap (λ (m : ℕ). 256 / m) w) s.args.frame.now i)
     (upto (ap (λ (m : ℕ). 192 * m) (sym w)) c.lines-then-bits-2.ensures)
 
 shape_of-strip-else-bits-2 : tie.Need-shape_of-strip-else-bits-2
@@ -79,10 +77,9 @@ shape_of-strip-else-bits-2 c = search rules
 
 returns-else-bits-2 : tie.Need-returns-else-bits-2
 returns-else-bits-2 c =
-    let t = c in
     let s = start_of c.before.before.before.before.before.before in
     let w = is-16 c.before.before.before.before.before in
-    by (λ i _ _. as_pairs s.args.look s.requires.0 4 (rw (t.gm.ensures, gm_low s.args.look) at c.if-bits-2.false) (ap (λ (m : ℕ). 256 / m) w) s.args.frame.now i)
+    by (λ i _ _. as_pairs s.args.look s.requires.0 4 (ne_eqb _ _ (rw (c.gm.ensures, gm_low s.args.look) at c.if-bits-2.false)) (ap (λ (m : ℕ). 256 / m) w) s.args.frame.now i)
     (upto (ap (λ (m : ℕ). 192 * m) (sym w)) c.lines-else-bits-2.ensures)
 
 pub gather_spec : {M : Type 1} → statement M
