@@ -61,15 +61,19 @@ store-requires c κs = search rules
 shape_of-strip : tie.Need-shape_of-strip
 shape_of-strip c = search rules
 
+-- the place before what was made is stored, from the function's end
+abbrev unstored : tie.After-slice_known-2-1 → tie.Else-k-lt-FRAME_LENGTH
+unstored c = c.before.before.before.before.before.before
+
 returns-2 : tie.Need-returns
 returns-2 c =
     let d = c in
     let g = c in
-    let s = start_of c.before.before.before.before.before.before.before.before in
+    let s = start_of (unstored c).before.before in
     let l = s.args.look in
     let n = d.strip_length-length.ensures in
     let f = d.first_stray-k.ensures in
-    let kept = stored (read_byte l s.args.frame.now) (strip_length l) (gather-of c.before.before.before.before.before.before.before.before).gather.new.strip s.args.strip.now n (gathered-long (gather-of c.before.before.before.before.before.before.before.before)) (fits s).strip_long (λ k h. (gather-of c.before.before.before.before.before.before.before.before).gather.ensures.is k zero-le h) c.store.ensures in
+    let kept = stored (read_byte l s.args.frame.now) (strip_length l) (gather-of (unstored c).before.before).gather.new.strip s.args.strip.now n (gathered-long (gather-of (unstored c).before.before)) (fits s).strip_long (λ k h. (gather-of (unstored c).before.before).gather.ensures.is k zero-le h) c.store.ensures in
     let k = told_clean l s.args.frame.now s.args.strip.now s.requires (rw f at d.if-k-lt-FRAME_LENGTH.false) kept in
     (ap done n ∙ k.0, k.1)
 

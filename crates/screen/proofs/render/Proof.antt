@@ -27,7 +27,7 @@ abbrev fetch-of : tie.After-draw-answer → tie.After-fetch
 fetch-of c = c.before.before.before.before
 
 abbrev start_of : tie.After-draw-answer → tie.Start
-start_of c = c.before.before.before.before.before.before.before.before.before.before.before
+start_of c = (fetch-of c).before.before.before.before.before.before.before
 
 fetched-long : (c : tie.After-draw-answer) → let a = (start_of c).args in strip_length a.settings.look ≤ length (strip_after a.settings a.image.now room)
 fetched-long c = let a = (start_of c).args in rw (strip_same_length a.settings a.image.now room) (long a.settings)
@@ -73,14 +73,18 @@ shape_of-strip c = search rules
 shape_of-frame : tie.Need-shape_of-frame
 shape_of-frame c = search rules
 
+-- the place before what was made is stored, from the function's end
+abbrev unstored : tie.After-slice_known-4-1 → tie.Else-number-ne0
+unstored c = c.before.before.before.before.before.before
+
 returns-2 : tie.Need-returns
 returns-2 c =
     let e = c in
     let d = c in
-    let i = start_of c.before.before.before.before.before.before.before.before.before.before in
+    let i = start_of (unstored c).before.before.before.before in
     let a = i.args in
-    let f = (fetch-of c.before.before.before.before.before.before.before.before.before.before).fetch.ensures.1.1 in
-    let kept = stored (fetched_byte a.settings a.image.now) (strip_length a.settings.look) (fetch-of c.before.before.before.before.before.before.before.before.before.before).fetch.new.strip a.strip.now c.strip_length.ensures (omega (arith, ap (λ (x : List ℕ). length x) f, fetched-long c.before.before.before.before.before.before.before.before.before.before)) (strip_long a.settings a.image.now a.font.now a.strip.now a.frame.now i.requires) (λ k h. ap (λ (x : List ℕ). get_or x k 0) f ∙ fetched_byte_lem a.settings a.image.now a.font.now a.strip.now a.frame.now i.requires room (long a.settings) k h) c.store.ensures in
+    let f = (fetch-of (unstored c).before.before.before.before).fetch.ensures.1.1 in
+    let kept = stored (fetched_byte a.settings a.image.now) (strip_length a.settings.look) (fetch-of (unstored c).before.before.before.before).fetch.new.strip a.strip.now c.strip_length.ensures (omega (arith, ap (λ (x : List ℕ). length x) f, fetched-long (unstored c).before.before.before.before)) (strip_long a.settings a.image.now a.font.now a.strip.now a.frame.now i.requires) (λ k h. ap (λ (x : List ℕ). get_or x k 0) f ∙ fetched_byte_lem a.settings a.image.now a.font.now a.strip.now a.frame.now i.requires room (long a.settings) k h) c.store.ensures in
     shown_stored a.settings a.image.now a.font.now a.strip.now a.frame.now i.requires room (long a.settings) f d.draw-answer.ensures.0 d.draw-answer.ensures.1
     (sym e.number.ensures ∙ e.if-number-ne0.false) kept
 

@@ -27,7 +27,7 @@ abbrev lasts-of : tie.At-loop-n invariant-loop decreases-loop → tie.After-line
 lasts-of c = c.before.before.before
 
 abbrev start_of : tie.At-loop-n invariant-loop decreases-loop → tie.Start invariant-loop decreases-loop
-start_of c = c.before.before.before.before.before.before.before.before
+start_of c = (wide_of c).before.before.before.before
 
 -- this turn's lines lie within the strip, the first before the others
 fits : (c : tie.In-loop-n invariant-loop decreases-loop) → let n = c.loop-n.n in let wide = (wide_of c.before).width-wide.result in let lasts = (lasts-of c.before).line_lasts-lasts.result in
