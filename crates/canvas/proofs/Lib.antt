@@ -4,6 +4,5 @@ pub mod Firsts
 pub mod Patches
 pub mod Rectangles
 pub mod Turns
-pub mod Lending
 pub mod Entries
 pub mod Unique

@@ -111,6 +111,6 @@ module _ (frame : List ℕ) (ys : List Placement) (width height : ℕ) (cs : Lis
   -- a placement that is laid has what it asks
   pub ready : (i : ℕ) (d : Placement) → i < turns → Ready (length frame) (get_or ys i d) width height (length cs)
   ready i d h =
-      let a = eqb-true _ 0 (laid_only accepts refl h) in
+      let a : (lay_told frame ys width height cs).number ≡ 0 = eqb-true _ 0 (laid_only accepts refl h) in
       let l : i < length ys = omega (arith, turns_le) in
       record { framed = framed frame ys width height cs a; inside = sym (tested ys i d l) ∙ all_inside frame ys width height cs a i l; sized = fits frame ys width height cs a }
