@@ -1,7 +1,6 @@
 // What plans on one canvas are: a placement, definitions and laws only, no code.
 #![tactic(auto)]
 
-
 // A rectangle of the frame, where its top left corner goes on the canvas (right and down count up), and the counts that its entry receives.
 #[derive(Clone, Copy)]
 pub struct Placement {

@@ -1,3 +1,2 @@
 // How promises are written: definitions and laws only, no code.
 #![tactic(auto)]
-

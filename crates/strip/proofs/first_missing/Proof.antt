@@ -1,6 +1,5 @@
 -- `strip::first_missing` meets its contract.
 use Rattle.std.proofs.Common.{◌≡◌, ℕ, ◌*◌, true, false, sym, ap, ◌∙◌, ap₂, arith, rules}
-use borrow.Author.Tests.{not-true, not-false}
 use Rattle.settings.specs.Banks.{missing}
 use Rattle.settings.specs.Fields.{offset}
 use Rattle.counter.specs.declared.Counter.{Counter}

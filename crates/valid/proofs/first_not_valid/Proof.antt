@@ -4,7 +4,6 @@ use mathlib.Core.Path.{◌≡◌, sym, ap, ◌∙◌}
 use mathlib.Core.Bool.{true}
 use lib.ListN.{length, get_or}
 use borrow.Author.Rules.{rules}
-use borrow.Author.Tests.{not-true, not-false}
 use Rattle.promises.specs.First.{first_where}
 use Rattle.settings.specs.Fields.{external}
 use Rattle.valid.proofs.Valids.{reach, high, not_external, none_high, found_none, found_there}
