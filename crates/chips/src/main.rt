@@ -1,8 +1,19 @@
 // Brings what was read off the chips to an image, or back: standard input to standard output, by the arguments k and `image` or `chip`.
 #![tactic(auto)]
 
+ghost use Rattle.std.specs.Prelude.{◌≡◌, ◌↔◌, IsTrue};
+ghost use Rattle.io.specs.Counts.{IsPrefixLen};
+
 use answer::Answer;
-use libc::{STDERR_FILENO, STDIN_FILENO, STDOUT_FILENO};
+use std::env::FillError;
+use std::io::Read;
+use std::rt::Env;
+
+const STDIN_FILENO: i32 = 0;
+
+const STDOUT_FILENO: i32 = 1;
+
+const STDERR_FILENO: i32 = 2;
 
 // A number of address pins, and whether the argument is one.
 #[derive(Clone, Copy)]
@@ -14,13 +25,11 @@ struct Pins {
 // The number that decimal digits make, 1,000 where it is greater: no chip has so many pins, and one so large is refused like it.
 fn pins_in(word: &[u8]) -> Pins {
     let mut k: usize = 0;
-    let mut i: usize = 0;
-    while i < word.len() {
-        if (word[i] < b'0') | (b'9' < word[i]) {
+    for b in word {
+        if (*b < b'0') | (b'9' < *b) {
             return Pins { given: false, k: 0 };
         }
-        k = next_number(k, word[i]);
-        i += 1;
+        k = next_number(k, *b);
     }
     Pins {
         given: 0 < word.len(),
@@ -37,18 +46,10 @@ fn next_number(k: usize, digit: u8) -> usize {
 }
 
 // Whether the bytes are the word.
-fn is(bytes: &[u8], word: &[u8]) -> bool {
-    let mut i: usize = 0;
-    while i < word.len() {
-        if bytes.len() <= i {
-            return false;
-        }
-        if bytes[i] != word[i] {
-            return false;
-        }
-        i += 1;
-    }
-    bytes.len() == word.len()
+fn is(bytes: &[u8], word: &[u8]) -> bool
+    ensures { IsTrue result ↔ (bytes.now ≡ word.now) }
+{
+    bytes == word
 }
 
 // Says what the arguments are.
@@ -79,10 +80,14 @@ fn finish(answer: Answer, bytes: &[u8]) {
     refuse(answer);
 }
 
-// Whether standard input has ended: one read more then answers 0, and -1 where it cannot be read.
-fn ended() -> bool {
+// Whether standard input has ended: one read more then answers 0, and an error where it cannot be read.
+fn ended(rt: &impl Input) -> bool {
     let mut more = [0u8; 1];
-    libc::read(STDIN_FILENO, &mut more) == 0
+    let mut input = rt.reader();
+    match input.read(&mut more) {
+        Ok(n) => n == 0,
+        Err(_) => false,
+    }
 }
 
 // Crosses to an image, or to the chips.
@@ -94,12 +99,12 @@ fn one_way(to_image: bool, k: usize, lent: &[u8], room: &mut [u8]) -> Answer {
 }
 
 // Crosses standard input. The longest image has 65,536 bytes, and a byte more is enough to be refused.
-fn cross(to_image: bool, k: usize) {
+fn cross(rt: &impl Input, to_image: bool, k: usize) {
     let mut lent = [0u8; 65537];
     let mut room = [0u8; 65537];
     let n = io::read_full(STDIN_FILENO, &mut lent);
     if n < 65537 {
-        if !ended() {
+        if !ended(rt) {
             io::write_all(STDERR_FILENO, b"chips: the input cannot be read\n");
             return;
         }
@@ -109,24 +114,37 @@ fn cross(to_image: bool, k: usize) {
 }
 
 // Crosses by what the two arguments say.
-fn by_words(pins: &[u8], way: &[u8]) {
+fn by_words(rt: &impl Input, pins: &[u8], way: &[u8]) {
     let found = pins_in(pins);
     let image = is(way, b"image");
     let chip = is(way, b"chip");
     if found.given & (image | chip) {
-        cross(image, found.k);
+        cross(rt, image, found.k);
         return;
     }
     explain();
 }
 
-fn main() {
+// Puts an argument at the start of the bytes, and says how many it has: 0 where it is missing or there is no room for it.
+fn argument(rt: &impl Env, i: usize, bytes: &mut [u8]) -> usize
+    ensures { IsPrefixLen result bytes.new }
+{
+    rt.arg(i, bytes).unwrap_or(0)
+}
+
+// Whether there is an argument of that number.
+fn is_given(rt: &impl Env, i: usize) -> bool {
+    let mut first = [0u8; 1];
+    !matches!(rt.arg(i, &mut first), Err(FillError::NotPresent))
+}
+
+fn main(rt: HostRuntime) {
     let mut pins = [0u8; 64];
     let mut way = [0u8; 64];
-    let n = os::arg(1, &mut pins);
-    let m = os::arg(2, &mut way);
-    if os::arg_count() == 3 {
-        by_words(&pins[..n], &way[..m]);
+    let n = argument(&rt, 1, &mut pins);
+    let m = argument(&rt, 2, &mut way);
+    if is_given(&rt, 2) & !is_given(&rt, 3) {
+        by_words(&rt, &pins[..n], &way[..m]);
         return;
     }
     explain();

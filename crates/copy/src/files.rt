@@ -1,9 +1,11 @@
 // Files for the programs that keep and restore records: new ones are made and flushed to the disk, and what fails is said in a sentence.
 ghost use Rattle.io.specs.Counts.{IsPrefixLen};
-ghost use Rattle.libc.specs.Io.{Ended};
 
-use crate::reading::complain;
-use libc::{EINVAL, PATH_MAX, STDERR_FILENO};
+use crate::reading::{STDERR_FILENO, complain, path_text};
+use std::fs;
+use std::fs::File;
+use std::io::{Result, Write};
+use std::rt::Files;
 
 // A number of bytes, and no more than there are.
 pub(crate) fn within(n: usize, bytes: &[u8]) -> usize
@@ -12,12 +14,10 @@ pub(crate) fn within(n: usize, bytes: &[u8]) -> usize
     if n <= bytes.len() { n } else { bytes.len() }
 }
 
-// Writes all bytes and flushes them to the disk.
-fn put(fd: i32, bytes: &[u8]) -> bool {
-    if !io::write_all(fd, bytes) {
-        return false;
-    }
-    libc::fsync(fd) == 0
+// Writes all bytes, flushes them to the disk and closes the file.
+fn put(mut file: File, bytes: &[u8]) -> Result<()> {
+    file.write_all(bytes)?;
+    file.sync_all()
 }
 
 // How much of a path names its folder: what stands up to the last slash.
@@ -35,29 +35,29 @@ fn folder_length(path: &[u8]) -> usize
 }
 
 // Opens the folder in which a path lies.
-fn open_folder(path: &[u8]) -> i32 {
+fn open_folder(rt: &impl Files<File = File>, path: &[u8]) -> Result<File> {
     let n = folder_length(path);
     if n == 0 {
-        return os::open_read(b".");
+        return File::open(rt, ".");
     }
-    os::open_read(&path[..n])
+    File::open(rt, path_text(&path[..n])?)
 }
 
 // Flushes that folder, so that the names in it are on the disk.
-fn put_folder(path: &[u8]) -> bool {
-    let fd = open_folder(path);
-    if fd < 0 {
-        return false;
-    }
-    let flushed = libc::fsync(fd) == 0;
-    libc::close(fd);
-    flushed
+fn put_folder(rt: &impl Files<File = File>, path: &[u8]) -> Result<()> {
+    let folder = open_folder(rt, path)?;
+    folder.sync_all()
+}
+
+// Removes a name.
+fn unlink(rt: &impl Files, path: &[u8]) -> Result<()> {
+    fs::remove_file(rt, path_text(path)?)
 }
 
 // Removes a file that was made.
-pub(crate) fn remove(who: &[u8], path: &[u8]) {
-    if os::unlink(path) != 0 {
-        complain(who, b"cannot remove ", path);
+pub(crate) fn remove(rt: &impl Files, who: &[u8], path: &[u8]) {
+    if let Err(error) = unlink(rt, path) {
+        complain(who, b"cannot remove ", path, error);
     }
 }
 
@@ -66,33 +66,17 @@ pub(crate) fn byte(text: &[u8], i: usize) -> u8 {
     if i < text.len() { text[i] } else { 0 }
 }
 
-// A path as the system reads it, up to a 0. One that is cut here is refused where it is opened.
-fn system_path(path: &[u8]) -> [u8; PATH_MAX]
-    ensures { Ended result }
-{
-    let mut bytes = io::buffer();
-    let mut i: usize = 0;
-    while i < PATH_MAX - 1 {
-        bytes[i] = byte(path, i);
-        i += 1;
+// Whether a name is taken, also by a link that leads nowhere: the link itself is looked at.
+fn taken(rt: &impl Files, path: &[u8]) -> bool {
+    match path_text(path) {
+        Ok(text) => fs::symlink_metadata(rt, text).is_ok(),
+        Err(_) => false,
     }
-    bytes[PATH_MAX - 1] = 0;
-    bytes
-}
-
-// Whether a name is taken, also by a link that leads nowhere: the system reads a link, and of any other file it says that it is none.
-fn taken(path: &[u8]) -> bool {
-    let name = system_path(path);
-    let mut link = [0u8; 1];
-    if libc::readlink(&name, &mut link) < 0 {
-        return os::errno() == EINVAL;
-    }
-    true
 }
 
 // Whether a file can be made without overwriting one; where it cannot, this is said.
-pub(crate) fn is_free(who: &[u8], path: &[u8]) -> bool {
-    if taken(path) {
+pub(crate) fn is_free(rt: &impl Files, who: &[u8], path: &[u8]) -> bool {
+    if taken(rt, path) {
         io::write_all(STDERR_FILENO, who);
         io::write_all(STDERR_FILENO, b"cannot write ");
         io::write_all(STDERR_FILENO, path);
@@ -102,23 +86,36 @@ pub(crate) fn is_free(who: &[u8], path: &[u8]) -> bool {
     true
 }
 
+// Opens a file that was not there.
+fn create(rt: &impl Files<File = File>, path: &[u8]) -> Result<File> {
+    File::create_new(rt, path_text(path)?)
+}
+
+// Writes all bytes into a new file, and flushes it and its folder to the disk.
+fn put_new(rt: &impl Files<File = File>, file: File, path: &[u8], bytes: &[u8]) -> Result<()> {
+    put(file, bytes)?;
+    put_folder(rt, path)
+}
+
 // Makes a file that was not there, with these bytes, and flushes it and its folder to the disk. Where that fails it is removed.
-pub(crate) fn write_new(who: &[u8], path: &[u8], bytes: &[u8]) -> bool {
-    let fd = os::create(path);
-    if fd < 0 {
-        complain(who, b"cannot write ", path);
-        return false;
+pub(crate) fn write_new(
+    rt: &impl Files<File = File>,
+    who: &[u8],
+    path: &[u8],
+    bytes: &[u8],
+) -> bool {
+    match create(rt, path) {
+        Ok(file) => {
+            if let Err(error) = put_new(rt, file, path, bytes) {
+                complain(who, b"cannot write ", path, error);
+                remove(rt, who, path);
+                return false;
+            }
+            true
+        }
+        Err(error) => {
+            complain(who, b"cannot write ", path, error);
+            false
+        }
     }
-    let mut whole = put(fd, bytes);
-    if whole {
-        whole = libc::close(fd) == 0;
-    }
-    if whole {
-        whole = put_folder(path);
-    }
-    if !whole {
-        complain(who, b"cannot write ", path);
-        remove(who, path);
-    }
-    whole
 }

@@ -4,8 +4,11 @@
 mod reading;
 
 use answer::Answer;
-use libc::{STDERR_FILENO, STDOUT_FILENO};
-use reading::read_arg;
+use reading::{STDERR_FILENO, argument, is_given, read_arg};
+use std::fs::File;
+use std::rt::{Env, Files};
+
+const STDOUT_FILENO: i32 = 1;
 
 // How each sentence on standard error begins.
 const WHO: [u8; 6] = *b"note: ";
@@ -73,13 +76,13 @@ fn tell<'a>(record: &'a [u8], cover: &'a [u8], key: &[u8]) -> bool {
 
 // Each sheet is read with a byte more than the longest that can be accepted: what lies past that changes nothing (`note-enough` of crate
 // claims). A key that is too long for its room is asked for as an empty one: neither can be a key.
-fn by_names() {
+fn by_names(rt: &(impl Env + Files<File = File>)) {
     let mut key = io::buffer();
     let mut record = [0u8; 28160];
     let mut cover = [0u8; 28160];
-    let k = os::arg(1, &mut key);
-    let of_record = read_arg(&WHO, 2, &mut record);
-    let of_cover = read_arg(&WHO, 3, &mut cover);
+    let k = argument(rt, 1, &mut key);
+    let of_record = read_arg(rt, &WHO, 2, &mut record);
+    let of_cover = read_arg(rt, &WHO, 3, &mut cover);
     let n = of_record.len;
     let m = of_cover.len;
     if of_record.whole & of_cover.whole {
@@ -90,18 +93,18 @@ fn by_names() {
 }
 
 // Whether an argument is a path that the system can take.
-fn is_path(i: usize) -> bool {
+fn is_path(rt: &impl Env, i: usize) -> bool {
     let mut path = io::buffer();
-    0 < os::arg(i, &mut path)
+    0 < argument(rt, i, &mut path)
 }
 
-fn main() {
-    if (os::arg_count() != 4) | !is_path(2) | !is_path(3) {
+fn main(rt: HostRuntime) {
+    if !is_given(&rt, 3) | is_given(&rt, 4) | !is_path(&rt, 2) | !is_path(&rt, 3) {
         io::write_all(
             STDERR_FILENO,
             b"note: give KEY RECORD COVER, the last two paths of sheets\n",
         );
         return;
     }
-    by_names();
+    by_names(&rt);
 }

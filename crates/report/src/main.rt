@@ -1,12 +1,22 @@
 // The report: reads a sheet from standard input and prints what a clerk sees.
 #![tactic(auto)]
 
-use libc::{STDERR_FILENO, STDIN_FILENO, STDOUT_FILENO};
+use std::io::Read;
 
-// Whether standard input has ended: one read more then answers 0, and -1 where it cannot be read.
-fn ended() -> bool {
+const STDIN_FILENO: i32 = 0;
+
+const STDOUT_FILENO: i32 = 1;
+
+const STDERR_FILENO: i32 = 2;
+
+// Whether standard input has ended: one read more then answers 0, and an error where it cannot be read.
+fn ended(rt: &impl Input) -> bool {
     let mut more = [0u8; 1];
-    libc::read(STDIN_FILENO, &mut more) == 0
+    let mut input = rt.reader();
+    match input.read(&mut more) {
+        Ok(n) => n == 0,
+        Err(_) => false,
+    }
 }
 
 // Prints the report of a sheet.
@@ -20,11 +30,11 @@ fn print(sheet: &[u8]) {
 }
 
 // The longest sheet has 28,159 bytes, and what lies past one byte more cannot change the report (`report-enough` of crate `report_text`).
-fn main() {
+fn main(rt: HostRuntime) {
     let mut sheet = [0u8; 28160];
     let n = io::read_full(STDIN_FILENO, &mut sheet);
     if n < 28160 {
-        if !ended() {
+        if !ended(&rt) {
             io::write_all(STDERR_FILENO, b"report: the input cannot be read\n");
             return;
         }

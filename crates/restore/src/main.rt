@@ -1,13 +1,19 @@
 // The strip out of a picture: from the picture file of a graphics screen to the strip that it shows, by the pins.
+#![tactic(auto)]
+
 mod files;
 mod reading;
 
 ghost use Rattle.std.specs.Prelude.{◌≤◌};
 
 use answer::Answer;
-use libc::{STDERR_FILENO, STDOUT_FILENO};
 use picture::FILE_LENGTH;
+use reading::{STDERR_FILENO, argument, is_given, read_arg};
 use settings::{FRAME_LENGTH, Look};
+use std::fs::File;
+use std::rt::{Env, Files};
+
+const STDOUT_FILENO: i32 = 1;
 
 // How each sentence on standard error begins.
 const WHO: [u8; 9] = *b"restore: ";
@@ -72,16 +78,16 @@ fn tell(answer: Answer) {
 }
 
 // Keeps a strip under a name that is free, and says so once it is on the disk.
-fn keep(path: &[u8], strip: &[u8], answer: Answer) {
-    if files::is_free(&WHO, path) {
-        if files::write_new(&WHO, path, strip) {
+fn keep(rt: &impl Files<File = File>, path: &[u8], strip: &[u8], answer: Answer) {
+    if files::is_free(rt, &WHO, path) {
+        if files::write_new(rt, &WHO, path, strip) {
             tell(answer);
         }
     }
 }
 
 // Restores the strip of a picture file.
-fn restore(pins: u8, png: &[u8], path: &[u8]) {
+fn restore(rt: &impl Files<File = File>, pins: u8, png: &[u8], path: &[u8]) {
     let mut frame = [0u8; FRAME_LENGTH];
     let mut strip = [0u8; 6144];
     let decoded = picture_back::decode(png, &mut frame);
@@ -95,16 +101,16 @@ fn restore(pins: u8, png: &[u8], path: &[u8]) {
         return;
     }
     let len = files::within(answer::value(answer), &strip);
-    keep(path, &strip[..len], answer);
+    keep(rt, path, &strip[..len], answer);
 }
 
 // Reads the picture, with a byte more than every picture has, and restores its strip.
-fn by_names(pins: u8, strip_path: &[u8]) {
+fn by_names(rt: &(impl Env + Files<File = File>), pins: u8, strip_path: &[u8]) {
     let mut png = [0u8; FILE_LENGTH + 1];
-    let found = reading::read_arg(&WHO, 2, &mut png);
+    let found = read_arg(rt, &WHO, 2, &mut png);
     if found.whole {
         let len = found.len;
-        restore(pins, &png[..len], strip_path);
+        restore(rt, pins, &png[..len], strip_path);
     }
 }
 
@@ -116,14 +122,14 @@ fn explain() {
     );
 }
 
-fn main() {
+fn main(rt: HostRuntime) {
     let mut word = io::buffer();
     let mut strip_path = io::buffer();
-    let n = os::arg(1, &mut word);
-    let s = os::arg(3, &mut strip_path);
+    let n = argument(&rt, 1, &mut word);
+    let s = argument(&rt, 3, &mut strip_path);
     let pins = pins_in(&word[..n]);
-    if pins.given & (os::arg_count() == 4) {
-        by_names(pins.pins, &strip_path[..s]);
+    if pins.given & is_given(&rt, 3) & !is_given(&rt, 4) {
+        by_names(&rt, pins.pins, &strip_path[..s]);
         return;
     }
     explain();
