@@ -86,9 +86,12 @@ pub(crate) fn is_free(rt: &impl Files, who: &[u8], path: &[u8]) -> bool {
     true
 }
 
-// Opens a file that was not there.
+// Makes a file that was not there, and opens it to be written.
 fn create(rt: &impl Files<File = File>, path: &[u8]) -> Result<File> {
-    File::create_new(rt, path_text(path)?)
+    File::options()
+        .write(true)
+        .create_new(true)
+        .open(rt, path_text(path)?)
 }
 
 // Writes all bytes into a new file, and flushes it and its folder to the disk.
