@@ -74,7 +74,7 @@ fn tell<'a>(record: &'a [u8], cover: &'a [u8], key: &[u8]) -> bool {
 
 // The arguments.
 
-// Each sheet is read with a byte more than the longest that can be accepted: what lies past that changes nothing (`note-enough` of crate
+// Each sheet is read with a byte more than the longest that can be accepted: what lies past that changes nothing (`note_enough` of crate
 // claims). A key that is too long for its room is asked for as an empty one: neither can be a key.
 fn by_names(rt: &(impl Env + Files<File = File>)) {
     let mut key = io::buffer();

@@ -29,7 +29,7 @@ fn print(sheet: &[u8]) {
     }
 }
 
-// The longest sheet has 28,159 bytes, and what lies past one byte more cannot change the report (`report-enough` of crate `report_text`).
+// The longest sheet has 28,159 bytes, and what lies past one byte more cannot change the report (`report_enough` of crate `report_text`).
 fn main(rt: HostRuntime) {
     let mut sheet = [0u8; 28160];
     let n = io::read_full(STDIN_FILENO, &mut sheet);
