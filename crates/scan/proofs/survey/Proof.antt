@@ -52,7 +52,7 @@ short c = let p : tie.After-shared_slice_known-1 = c.before.before.before.before
 deed_at : (c : tie.Else-not-deed) → Field (deed_word ++ eq) deed_byte 1 16 (sheet c) 0 c.keyed_line-deed.result.size
 deed_at c =
     let r = c.keyed_line-deed in
-    field (deed_word ++ eq) deed_byte 1 16 45 refl refl (omega arith) (sheet c) 0 r.result r.ensures.0 (c.if-not-deed.false)
+    field (deed_word ++ eq) deed_byte 1 16 45 refl refl (omega arith) (sheet c) 0 r.result r.ensures.0 (not-false _ c.if-not-deed.false)
 
 abbrev after-deed : tie.Else-not-deed → Rest read_sheet read_from_pins
 after-deed c = first_passes to_fields read_deed (λ _. read_from_pins) (sheet c) (deed_at c).here
@@ -60,7 +60,7 @@ after-deed c = first_passes to_fields read_deed (λ _. read_from_pins) (sheet c)
 pins-at : (c : tie.Else-not-pins) → HexField (pins_word ++ eq) 2 (sheet (deed-of c)) (after-deed (deed-of c)).at c.keyed_line-pins.result.size
 pins-at c =
     let r = c.keyed_line-pins in
-    hex_field (pins_word ++ eq) 2 (sheet (deed-of c)) (after-deed (deed-of c)).at r.result r.ensures.0 (c.if-not-pins.false)
+    hex_field (pins_word ++ eq) 2 (sheet (deed-of c)) (after-deed (deed-of c)).at r.result r.ensures.0 (not-false _ c.if-not-pins.false)
 
 abbrev after-pins : tie.Else-not-pins → Rest read_sheet read_from_rule
 after-pins c = next_passes read_pins (λ _. read_from_rule) (after-deed (deed-of c)) (pins-at c).here
@@ -72,7 +72,7 @@ many c = c.ruled_count-ruled.result.count
 rule-at : (c : tie.Else-not-ruled) → (v : Option Rule) × (read_ruled_count (unread (after-pins (pins-of c))) ≡ got (v, many c) c.ruled_count-ruled.result.size) × (c.ruled_count-ruled.result.rule ≡ rule_given v)
 rule-at c =
     let r = c.ruled_count-ruled in
-    ruled_count_got (read_ruled_count (unread (after-pins (pins-of c)))) r.result r.ensures.0 (c.if-not-ruled.false)
+    ruled_count_got (read_ruled_count (unread (after-pins (pins-of c)))) r.result r.ensures.0 (not-false _ c.if-not-ruled.false)
 
 abbrev after-rule : (c : tie.Else-not-ruled) → Rest read_sheet (read_from_writes (many c))
 after-rule c = next_passes read_ruled_count (λ ruled. read_from_writes ruled.1) (after-pins (pins-of c)) (rule-at c).1
@@ -80,7 +80,7 @@ after-rule c = next_passes read_ruled_count (λ ruled. read_from_writes ruled.1)
 writes_at : (c : tie.Else-not-lines) → (l : List ℕ) × (read_times read_at (many (rule-of c)) (unread (after-rule (rule-of c))) ≡ got l c.write_lines-lines.result.size) × (c.write_lines-lines.result.writes ≡ padded 64 l)
 writes_at c =
     let r = c.write_lines-lines in
-    written_got (read_times read_at (many (rule-of c)) (unread (after-rule (rule-of c)))) r.result r.ensures.0 (c.if-not-lines.false)
+    written_got (read_times read_at (many (rule-of c)) (unread (after-rule (rule-of c)))) r.result r.ensures.0 (not-false _ c.if-not-lines.false)
 
 abbrev after-writes : tie.Else-not-lines → Rest read_sheet read_annotations
 after-writes c = next_passes (read_times read_at (many (rule-of c))) (λ _. read_annotations) (after-rule (rule-of c)) (writes_at c).1
@@ -95,7 +95,7 @@ returns-then-not-deed : tie.Need-returns-then-not-deed
 returns-then-not-deed c =
     let s = c.args.s.now in
     let r = c.keyed_line-deed in
-    let h = not_whole (read_deed s) r.result r.ensures.0 (c.if-not-deed.true) in
+    let h = not_whole (read_deed s) r.result r.ensures.0 (not-true _ c.if-not-deed.true) in
     c.broken.ensures ∙ sym (ap outline_of (first_sticks to_fields read_deed (λ _. read_from_pins) s h))
 
 keyed_line-pins-requires : tie.Need-keyed_line-pins-requires
@@ -111,7 +111,7 @@ returns-then-not-pins : tie.Need-returns-then-not-pins
 returns-then-not-pins c =
     let p = c in
     let r = c.keyed_line-pins in
-    let h = hex_stuck (pins_word ++ eq) 2 (sheet c.before.before.before.before.before.before.before) (after-deed c.before.before.before.before.before.before.before).at r.result r.ensures.0 (c.if-not-pins.true) in
+    let h = hex_stuck (pins_word ++ eq) 2 (sheet c.before.before.before.before.before.before.before) (after-deed c.before.before.before.before.before.before.before).at r.result r.ensures.0 (not-true _ c.if-not-pins.true) in
     c.broken-then-not-pins.ensures ∙ sym (ap outline_of (next_sticks read_pins (λ _. read_from_rule) (after-deed c.before.before.before.before.before.before.before) h))
 
 overflow_add-rule_at : tie.Need-overflow_add-rule_at
@@ -130,7 +130,7 @@ returns-then-not-ruled : tie.Need-returns-then-not-ruled
 returns-then-not-ruled c =
     let p = c in
     let r = c.ruled_count-ruled in
-    let h = ruled_count_stuck (read_ruled_count (unread (after-pins c.before.before.before.before.before.before))) r.result r.ensures.0 (c.if-not-ruled.true) in
+    let h = ruled_count_stuck (read_ruled_count (unread (after-pins c.before.before.before.before.before.before))) r.result r.ensures.0 (not-true _ c.if-not-ruled.true) in
     c.broken-then-not-ruled.ensures ∙ sym (ap outline_of (next_sticks read_ruled_count (λ ruled. read_from_writes ruled.1) (after-pins c.before.before.before.before.before.before) h))
 
 overflow_add-writes_at : tie.Need-overflow_add-writes_at
@@ -149,7 +149,7 @@ returns-then-not-lines : tie.Need-returns-then-not-lines
 returns-then-not-lines c =
     let p = c in
     let r = c.write_lines-lines in
-    let h = written_stuck (read_times read_at (many c.before.before.before.before.before.before) (unread (after-rule c.before.before.before.before.before.before))) r.result r.ensures.0 (c.if-not-lines.true) in
+    let h = written_stuck (read_times read_at (many c.before.before.before.before.before.before) (unread (after-rule c.before.before.before.before.before.before))) r.result r.ensures.0 (not-true _ c.if-not-lines.true) in
     c.broken-then-not-lines.ensures ∙ sym (ap outline_of (next_sticks (read_times read_at (many c.before.before.before.before.before.before)) (λ _. read_annotations) (after-rule c.before.before.before.before.before.before) h))
 
 overflow_add-tail : tie.Need-overflow_add-tail
@@ -168,7 +168,7 @@ returns-then-not-notes : tie.Need-returns-then-not-notes
 returns-then-not-notes c =
     let p = c in
     let r = c.annotation_lines-notes in
-    let h = counted_stuck length (read_annotations (unread (after-writes c.before.before.before.before.before.before))) r.result r.ensures.0 (c.if-not-notes.true) in
+    let h = counted_stuck length (read_annotations (unread (after-writes c.before.before.before.before.before.before))) r.result r.ensures.0 (not-true _ c.if-not-notes.true) in
     c.broken-then-not-notes.ensures ∙ sym (ap outline_of (rest_read read_annotations (after-writes c.before.before.before.before.before.before) h))
 
 overflow_sub-result : tie.Need-overflow_sub-result
@@ -190,15 +190,15 @@ overflow_cast-result c =
     let at = (after-deed (deed-of p)).at + 5 in
     let d = drop at (sheet (deed-of p)) in
     let w = length-take-le 2 d (omega (arith, length-drop at (sheet (deed-of p)), (pins-at p).long, p.before.before.keyed_line-pins.ensures.1)) in
-    omega (arith, c.hex_value_lem.ensures, subst (λ (k : ℕ). hex_value (take 2 d) < 16 ^ k) w (value_lt (take 2 d) (pins-at p).digits))
+    omega (arith, c.hex_value.ensures, subst (λ (k : ℕ). hex_value (take 2 d) < 16 ^ k) w (value_lt (take 2 d) (pins-at p).digits))
 
 returns-6 : tie.Need-returns
 returns-6 c =
     let p = writes-of c.before.before.before in
     let q = rule-of p in
     let r = c.annotation_lines-notes in
-    let g = counted_got length (read_annotations (unread (after-writes p))) r.result r.ensures.0 (c.if-not-notes.false) in
-    outlined (after-writes p) g.1 refl (omega (arith, (deed_at (deed-of (pins-of q))).long)) c.hex_value_lem.ensures (rule-at q).2 (writes_at p).2 (writes_many (many q) (unread (after-rule q)) (writes_at p).1) g.2
+    let g = counted_got length (read_annotations (unread (after-writes p))) r.result r.ensures.0 (not-false _ c.if-not-notes.false) in
+    outlined (after-writes p) g.1 refl (omega (arith, (deed_at (deed-of (pins-of q))).long)) c.hex_value.ensures (rule-at q).2 (writes_at p).2 (writes_many (many q) (unread (after-rule q)) (writes_at p).1) g.2
 
 pub survey_spec : {M : Type 1} → statement M
 survey_spec =

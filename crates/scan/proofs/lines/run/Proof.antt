@@ -4,7 +4,6 @@ use native.Mathlib.Omega.{arith}
 use mathlib.Core.Path.{◌≡◌, sym, ◌∙◌}
 use mathlib.Core.Bool.{true, false}
 use borrow.Author.Rules.{rules}
-use borrow.Author.Tests.{not-true, not-false}
 use lib.ListN.{length, drop, get_or}
 use Rattle.text.specs.Combine.{span}
 use Rattle.text.proofs.Scans.{span_over, span_end, span_off, span_more, span_start}

@@ -29,7 +29,7 @@ turn c = c.before.before.before.before.before.before
 one : (c : tie.After-struct_known-in-loop-at-1 invariant-loop decreases-loop) → One (drop (turn c).loop-at.at (turn c).args.s.now) c.annotation_line-line.result.size
 one c =
     let r = c.annotation_line-line in
-    one_line (drop (turn c).loop-at.at (turn c).args.s.now) r.result r.ensures.0 (c.if-not-line.false)
+    one_line (drop (turn c).loop-at.at (turn c).args.s.now) r.result r.ensures.0 (not-false _ c.if-not-line.false)
 
 loop-at-init : tie.Need-loop-at-init invariant-loop decreases-loop
 loop-at-init c =
@@ -61,7 +61,7 @@ returns-then-not-line c =
     let a = t.args in
     let l = t.loop-at in
     let r = c.annotation_line-line in
-    (lines_stuck (read_annotations (drop a.from a.s.now)) (read_up_to read_annotation (200 - l.many) (drop l.at a.s.now)) l.many (l.at - a.from) l.invariant.3 r.result.size (up_to_stuck read_annotation a.s.now l.at (200 - l.many) r.result.size (omega arith) (omega arith) (not_whole (read_annotation (drop l.at a.s.now)) r.result r.ensures.0 (c.if-not-line.true))), omega (arith, r.ensures.1))
+    (lines_stuck (read_annotations (drop a.from a.s.now)) (read_up_to read_annotation (200 - l.many) (drop l.at a.s.now)) l.many (l.at - a.from) l.invariant.3 r.result.size (up_to_stuck read_annotation a.s.now l.at (200 - l.many) r.result.size (omega arith) (omega arith) (not_whole (read_annotation (drop l.at a.s.now)) r.result r.ensures.0 (not-true _ c.if-not-line.true))), omega (arith, r.ensures.1))
 
 overflow_add-at : tie.Need-overflow_add-at invariant-loop decreases-loop
 overflow_add-at c = omega (arith, c.annotation_line-line.ensures.1)
@@ -82,7 +82,7 @@ loop-at-preserved c =
       omega arith,
       r.ensures.1,
       omega arith,
-      passed_more o l.many (l.at - a.from) (read_up_to read_annotation (200 - l.many) (drop l.at a.s.now)) l.inv.3 (one c).value n (read_up_to read_annotation (200 - (l.many + 1)) (drop (l.at + n) a.s.now)) (l.at + n - a.from) (omega arith)
+      passed_more o l.many (l.at - a.from) (read_up_to read_annotation (200 - l.many) (drop l.at a.s.now)) l.invariant.3 (one c).value n (read_up_to read_annotation (200 - (l.many + 1)) (drop (l.at + n) a.s.now)) (l.at + n - a.from) (omega arith)
           (up_to_more read_annotation a.s.now l.at (200 - l.many) (one c).value n (omega arith) (omega arith) (one c).here ∙ ap (λ (j : ℕ). ahead ((one c).value ∷ []) n (read_up_to read_annotation j (drop (l.at + n) a.s.now))) (let q : 200 - l.many - 1 ≡ 200 - (l.many + 1) = omega arith in q)),
     )
 

@@ -2,7 +2,7 @@
 use Prim.Native.Nat.{ℕ, ◌+◌, ◌-◌, ◌≤◌}
 use native.Mathlib.Omega.{arith}
 use mathlib.Core.List.{[], ◌∷◌, ◌++◌}
-use mathlib.Core.Path.{◌≡◌, refl, sym, ◌∙◌, ap}
+use mathlib.Core.Path.{◌≡◌, sym, ◌∙◌, ap}
 use borrow.Author.Tests.{not-true, not-false}
 use lib.ListN.{length, drop}
 use Rattle.text.specs.Code.{got}
@@ -29,7 +29,7 @@ turn c = c.before.before.before.before.before.before
 one : (c : tie.Else-not-line invariant-loop decreases-loop) → HexField (at_word ++ eq) 4 (turn c).args.s.now (turn c).loop-i.at c.keyed_line-line.result.size
 one c =
     let r = c.keyed_line-line in
-    hex_field (at_word ++ eq) 4 (turn c).args.s.now (turn c).loop-i.at r.result r.ensures.0 (c.if-not-line.false)
+    hex_field (at_word ++ eq) 4 (turn c).args.s.now (turn c).loop-i.at r.result r.ensures.0 (not-false _ c.if-not-line.false)
 
 loop-i-init : tie.Need-loop-i-init invariant-loop decreases-loop
 loop-i-init c =
@@ -52,7 +52,7 @@ returns-then-not-line c =
     let a = t.args in
     let l = t.loop-i in
     let r = c.keyed_line-line in
-    (filled_stuck l.out l.i (l.at - a.from) (read_times read_at a.count (drop a.from a.s.now)) (read_times read_at (a.count - l.i) (drop l.at a.s.now)) l.invariant.3 r.result.size (times_stuck read_at a.s.now l.at (a.count - l.i) r.result.size (omega arith) (hex_stuck (at_word ++ eq) 4 a.s.now l.at r.result r.ensures.0 (c.if-not-line.true))), omega (arith, r.ensures.1))
+    (filled_stuck l.out l.i (l.at - a.from) (read_times read_at a.count (drop a.from a.s.now)) (read_times read_at (a.count - l.i) (drop l.at a.s.now)) l.invariant.3 r.result.size (times_stuck read_at a.s.now l.at (a.count - l.i) r.result.size (omega arith) (hex_stuck (at_word ++ eq) 4 a.s.now l.at r.result r.ensures.0 (not-true _ c.if-not-line.true))), omega (arith, r.ensures.1))
 
 overflow_add-at : tie.Need-overflow_add-at invariant-loop decreases-loop
 overflow_add-at c =
@@ -87,11 +87,11 @@ loop-i-preserved c =
     let r = c.keyed_line-line in
     let n = r.result.size in
     let f = one c.before.before in
-    let v = c.hex_value_lem in (
+    let v = c.hex_value in (
       omega arith,
       r.ensures.1,
       omega arith,
-      filled_more l.out l.i (l.at - a.from) (read_times read_at a.count (drop a.from a.s.now)) (read_times read_at (a.count - l.i) (drop l.at a.s.now)) l.inv.3 (omega arith) v.result n (read_times read_at (a.count - (l.i + 1)) (drop (l.at + n) a.s.now)) (l.at + n - a.from) (omega arith)
+      filled_more l.out l.i (l.at - a.from) (read_times read_at a.count (drop a.from a.s.now)) (read_times read_at (a.count - l.i) (drop l.at a.s.now)) l.invariant.3 (omega arith) v.result n (read_times read_at (a.count - (l.i + 1)) (drop (l.at + n) a.s.now)) (l.at + n - a.from) (omega arith)
           (times_more read_at a.s.now l.at (a.count - l.i) v.result n (omega arith) (f.here ∙ ap (λ (x : ℕ). got x n) (sym v.ensures))
           ∙ ap (λ (j : ℕ). ahead (v.result ∷ []) n (read_times read_at j (drop (l.at + n) a.s.now))) (let q : a.count - l.i - 1 ≡ a.count - (l.i + 1) = omega arith in q)),
     )

@@ -28,7 +28,7 @@ returns-then-not-line c =
     let a = k.before.before.before.before.args in
     let n = k.before.common_bytes in
     let r = c.keyed_line-line in
-    (broken_line a.s.now a.at n.result n.ensures.0 k.if-common_bytes-eq0.left r.result r.ensures.0 (c.if-not-line.true), r.ensures.1)
+    (broken_line a.s.now a.at n.result n.ensures.0 k.if-common_bytes-eq0.false r.result r.ensures.0 (not-true _ c.if-not-line.true), r.ensures.1)
 
 overflow_add-at : tie.Need-overflow_add-at
 overflow_add-at c = search rules
@@ -40,7 +40,7 @@ bounds-s-at c =
     let a = k.before.before.before.before.args in
     let n = k.before.common_bytes in
     let r = e.keyed_line-line in
-    omega (arith, (whole_field a.s.now a.at n.result n.ensures.0 k.if-common_bytes-eq0.left r.result r.ensures.0 (e.if-not-line.false)).long, r.ensures.1)
+    omega (arith, (whole_field a.s.now a.at n.result n.ensures.0 k.if-common_bytes-eq0.false r.result r.ensures.0 (not-false _ e.if-not-line.false)).long, r.ensures.1)
 
 rule_of-rule-requires : tie.Need-rule_of-rule-requires
 rule_of-rule-requires c κs = search rules
@@ -52,7 +52,7 @@ returns-3 c =
     let a = k.before.before.before.before.args in
     let n = k.before.common_bytes in
     let r = e.keyed_line-line in
-    (whole_line a.s.now a.at n.result n.ensures.0 k.if-common_bytes-eq0.left r.result r.ensures.0 (e.if-not-line.false) c.rule_of-rule.result c.rule_of-rule.ensures, r.ensures.1)
+    (whole_line a.s.now a.at n.result n.ensures.0 k.if-common_bytes-eq0.false r.result r.ensures.0 (not-false _ e.if-not-line.false) c.rule_of-rule.result c.rule_of-rule.ensures, r.ensures.1)
 
 pub rule_line_spec : {M : Type 1} → statement M
 rule_line_spec =

@@ -17,7 +17,7 @@ returns-then-not-line : tie.Need-returns-then-not-line
 returns-then-not-line c =
     let a = c.args in
     let r = c.rule_line-line in
-    (no_rule a.s.now a.at r.result r.ensures.0 (c.if-not-line.true), r.ensures.1)
+    (no_rule a.s.now a.at r.result r.ensures.0 (not-true _ c.if-not-line.true), r.ensures.1)
 
 overflow_add-at : tie.Need-overflow_add-at
 overflow_add-at c = search rules
@@ -35,7 +35,7 @@ returns-then-not-count c =
     let a = e.before.before.before.before.args in
     let r = e.before.before.rule_line-line in
     let n = p.count_line-count in
-    (no_count a.s.now a.at r.result r.ensures.0 (not-false _ e.if-not-line.left) n.result n.ensures.0 (p.if-not-count.true), omega (arith, n.ensures.1))
+    (no_count a.s.now a.at r.result r.ensures.0 (not-false _ e.if-not-line.false) n.result n.ensures.0 (not-true _ p.if-not-count.true), omega (arith, n.ensures.1))
 
 overflow_add-result-2 : tie.Need-overflow_add-result-2
 overflow_add-result-2 c = search rules
@@ -47,7 +47,7 @@ returns-3 c =
     let a = e.before.before.before.before.args in
     let r = e.before.before.rule_line-line in
     let n = p.count_line-count in
-    (both_whole a.s.now a.at r.result r.ensures.0 (not-false _ e.if-not-line.left) n.result n.ensures.0 (p.if-not-count.false), omega (arith, n.ensures.1))
+    (both_whole a.s.now a.at r.result r.ensures.0 (not-false _ e.if-not-line.false) n.result n.ensures.0 (not-false _ p.if-not-count.false), omega (arith, n.ensures.1))
 
 pub ruled_count_spec : {M : Type 1} → statement M
 ruled_count_spec =
