@@ -27,10 +27,10 @@ begin-of c = start_of (own_of c)
 
 -- ---- the two sheets
 own-whole : (c : tie.Else-not-of_record) → WholeGiven (read_sheet (start_of c.before).args.«record».now) c.survey-of_record.result
-own-whole c = whole_given (read_sheet (start_of c.before).args.«record».now) c.survey-of_record.result c.survey-of_record.ensures (c.if-not-of_record.false)
+own-whole c = whole_given (read_sheet (start_of c.before).args.«record».now) c.survey-of_record.result c.survey-of_record.ensures (not-false _ c.if-not-of_record.false)
 
 cover-whole : (c : tie.Else-not-of_cover) → WholeGiven (read_sheet (begin-of c.before).args.cover.now) c.survey-of_cover.result
-cover-whole c = whole_given (read_sheet (begin-of c.before).args.cover.now) c.survey-of_cover.result c.survey-of_cover.ensures (c.if-not-of_cover.false)
+cover-whole c = whole_given (read_sheet (begin-of c.before).args.cover.now) c.survey-of_cover.result c.survey-of_cover.ensures (not-false _ c.if-not-of_cover.false)
 
 -- whether the record's sheet has the key
 own-lacks : (c : tie.Else-here) → has_key (begin-of c.before.before.before).args.«record».now (begin-of c.before.before.before).args.key.now ≡ false
@@ -46,7 +46,7 @@ returns-then-not-of_record : tie.Need-returns-then-not-of_record
 returns-then-not-of_record c =
     let p = c in
     let a = (start_of c.before.before).args in
-    let g = broken_given (read_sheet a.«record».now) p.survey-of_record.result p.survey-of_record.ensures (c.if-not-of_record.true) in
+    let g = broken_given (read_sheet a.«record».now) p.survey-of_record.result p.survey-of_record.ensures (not-true _ c.if-not-of_record.true) in
     let e = broken_record a.«record».now a.cover.now a.key.now g.not_got in
     (ap told_of c.refused.ensures.0 ∙ ap (λ (t : Told). told 11 t.place 0) g.told_broken ∙ sym e.tells, c.refused.ensures.1 ∙ sym e.holds)
 
@@ -60,7 +60,7 @@ returns-then-not-of_cover : tie.Need-returns-then-not-of_cover
 returns-then-not-of_cover c =
     let p = c in
     let a = (begin-of c.before.before).args in
-    let g = broken_given (read_sheet a.cover.now) p.survey-of_cover.result p.survey-of_cover.ensures (c.if-not-of_cover.true) in
+    let g = broken_given (read_sheet a.cover.now) p.survey-of_cover.result p.survey-of_cover.ensures (not-true _ c.if-not-of_cover.true) in
     let e = broken_cover a.«record».now a.cover.now a.key.now (own-whole c.before.before.before.before).is_got_lem g.not_got in
     (ap told_of c.refused-then-not-of_cover.ensures.0 ∙ ap (λ (t : Told). told 11 t.place 0) g.told_broken ∙ sym e.tells, c.refused-then-not-of_cover.ensures.1 ∙ sym e.holds)
 

@@ -27,7 +27,7 @@ end_of c = c.line_end-end.ensures ∙ ap (λ (n : ℕ). c.loop-at.at + n) (this 
 
 -- where it has the key
 keyed : (c : tie.Then-has_key invariant-loop decreases-loop) → keyed_by c.args.key.now (drop c.loop-at.at c.args.s.now) ≡ true
-keyed c = sym c.has_key_lem.ensures ∙ c.if-has_key.true
+keyed c = sym c.has_key.ensures ∙ c.if-has_key.true
 
 loop-at-init : tie.Need-loop-at-init invariant-loop decreases-loop
 loop-at-init c = let e = c in nothing_passed e.args.s.now e.args.key.now e.args.from e.requires.1
@@ -57,7 +57,7 @@ loop-at-smaller : tie.Need-loop-at-smaller invariant-loop decreases-loop
 loop-at-smaller c = omega (arith, end_of c.before.before)
 
 loop-at-preserved : tie.Need-loop-at-preserved invariant-loop decreases-loop
-loop-at-preserved c = (this c.before.before.before).missed c.line_end-end.result (end_of c.before.before) (sym c.has_key_lem.ensures ∙ c.if-has_key.false)
+loop-at-preserved c = (this c.before.before.before).missed c.line_end-end.result (end_of c.before.before) (sym c.has_key.ensures ∙ c.if-has_key.false)
 
 returns-2 : tie.Need-returns invariant-loop decreases-loop
 returns-2 c =
