@@ -76,11 +76,11 @@ module _ (s : Lent) where
           ∙ v.holds ∙ sym v.named
 
   -- annotation n is not empty exactly for n below the count
-  pub line_some : (κs κr : Lfts 1) (z : Sheet) → Reads κs s z → (n : ℕ) (r : Lent) → Line κr s n r → (0 < length (now r)) ↔ (n < z.annotations)
+  pub line_some : (κs κr : Lfts 1) (z : Sheet) → Reads κs s z → (n : ℕ) (r : Lent) → Line κr s n r → (0 < length r.now) ↔ (n < z.annotations)
   line_some κs κr z p n r q = (
-    λ h. ⊎_elim (λ (k : length (fields_in (now s)).annotations ≤ n). absurd (omega (arith, h, ap length (line_holds κr n r q), (none_from (now s) n k).1))) (λ (k : n < length (fields_in (now s)).annotations). omega (arith, k, p.annotations)) (le_or_lt (length (fields_in (now s)).annotations) n),
-    λ h. let k : n < length (fields_in (now s)).annotations = omega (arith, h, p.annotations) in
-        let v = line_in (now s) n (some_accepted (now s) (omega arith)) k in
+    λ h. ⊎_elim (λ (k : length (fields_in s.now).annotations ≤ n). absurd (omega (arith, h, ap length (line_holds κr n r q), (none_from s.now n k).1))) (λ (k : n < length (fields_in s.now).annotations). omega (arith, k, p.annotations)) (le_or_lt (length (fields_in s.now).annotations) n),
+    λ h. let k : n < length (fields_in s.now).annotations = omega (arith, h, p.annotations) in
+        let v = line_in s.now n (some_accepted s.now (omega arith)) k in
         omega (arith, ap length (line_holds κr n r q), ap length v.named, length-append v.value.key (eq ++ v.value.value), length-append eq v.value.value),
   )
 

@@ -51,7 +51,7 @@ returns-2 : tie.Need-returns
 returns-2 c =
     let s = c.args.sheet.now in
     let g = broken_given (read_sheet s) c.survey-found.result c.survey-found.ensures c.if-found.false in
-    part_move 0 0 (deed_from s) (length (fields_in s).deed) (ap (λ (t : Bool). choose t 5 0) g.not_got) (sym (ap (λ (f : Fields). length f.deed) g.no_fields)) (record { bytes = refl; block = refl; offset = omega arith })
+    part_move 0 0 (deed_from s) (length (fields_in s).deed) (ap (λ (t : Bool). choose t 5 0) g.not_got) (sym (ap (λ (f : Fields). length f.deed) g.no_fields_lem)) (record { bytes = refl; block = refl; offset = omega arith })
 
 pub deed_spec : {M : Type 1} → statement M
 deed_spec =

@@ -33,11 +33,11 @@ returns-2 c =
     let g = broken_given (read_sheet s) r.result r.ensures c.if-found.false in
     record {
       told = g.told_broken;
-      pins = ap (λ (f : Fields). f.pins) g.no_fields;
-      rule = ap (λ (f : Fields). rule_given f.rule) g.no_fields;
-      writes = ap (λ (f : Fields). padded 64 f.writes) g.no_fields;
-      count = ap (λ (f : Fields). length f.writes) g.no_fields;
-      annotations = ap (λ (f : Fields). length f.annotations) g.no_fields;
+      pins = ap (λ (f : Fields). f.pins) g.no_fields_lem;
+      rule = ap (λ (f : Fields). rule_given f.rule) g.no_fields_lem;
+      writes = ap (λ (f : Fields). padded 64 f.writes) g.no_fields_lem;
+      count = ap (λ (f : Fields). length f.writes) g.no_fields_lem;
+      annotations = ap (λ (f : Fields). length f.annotations) g.no_fields_lem;
     }
 
 pub read_spec : {M : Type 1} → statement M

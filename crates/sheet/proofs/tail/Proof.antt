@@ -47,7 +47,7 @@ returns-2 : tie.Need-returns
 returns-2 c =
     let s = c.args.sheet.now in
     let g = broken_given (read_sheet s) c.survey-found.result c.survey-found.ensures c.if-found.false in
-    part_move 0 0 (tail_from s) (length (lines (fields_in s).annotations)) (ap (λ (t : Bool). choose t (length (front (fields_in s))) 0) g.not_got) (sym (ap (λ (f : Fields). length (lines f.annotations)) g.no_fields)) (record { bytes = refl; block = refl; offset = omega arith })
+    part_move 0 0 (tail_from s) (length (lines (fields_in s).annotations)) (ap (λ (t : Bool). choose t (length (front (fields_in s))) 0) g.not_got) (sym (ap (λ (f : Fields). length (lines f.annotations)) g.no_fields_lem)) (record { bytes = refl; block = refl; offset = omega arith })
 
 pub tail_spec : {M : Type 1} → statement M
 tail_spec =
