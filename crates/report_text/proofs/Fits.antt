@@ -1,47 +1,30 @@
 -- Every report fits its array, and ends with the sheet's annotation lines where the sheet is whole.
-use Prim.Native.Nat.{ℕ, zero, suc, ◌+◌, ◌/◌, ◌≤◌}
+use Prim.Native.Nat.{ℕ, ◌≤◌}
 use mathlib.Core.Path.{◌≡◌, sym, ap, ◌∙◌}
 use mathlib.Core.List.{List, ◌++◌, append_assoc}
 use native.Mathlib.Omega.{arith}
-use lib.Dec.{ltb, eqb}
+use lib.Dec.{eqb}
 use lib.ListN.{length, take, length-append}
 use borrow.Author.Tests.{eqb-true, eqb-false}
 use Rattle.promises.specs.Told.{Told}
 use Rattle.promises.proofs.Choices.{of_both, by_test}
 use Rattle.settings.specs.declared.Settings.{Settings}
 use Rattle.settings.proofs.Names.{name_small}
-use Rattle.grammar.specs.Sheet.{eq, nl, lines}
+use Rattle.grammar.specs.Sheet.{lines}
 use Rattle.grammar.specs.Given.{fields_in}
-use Rattle.report_text.specs.Words.{annotations_word, decimal_in, decimal, line_of, room, text_of, held}
+use Rattle.report_text.specs.Words.{annotations_word, decimal, line_of, room, text_of, held}
 use Rattle.intake.specs.Intake.{settings_in}
 use Rattle.report_text.specs.Report.{status_line, place_line, deed_printed, setting_lines, annotated, text_for}
 use Rattle.report_text.specs.declared.Text.{Text}
 use Rattle.report_text.proofs.Texts.{held_text, holds_text, text_long, place_long as place-full}
-use Rattle.report_text.proofs.Values.{deed_small, tail_small}
+use Rattle.report_text.proofs.Values.{deed_small}
+use Rattle.report_text.proofs.Longs.{decimal_small, annotated_long}
 use Rattle.report_text.proofs.Cases.{report_done, report_refused}
-
-pub decimal_small : (most n : ℕ) → length (decimal_in most n) ≤ most
-unfolding decimal_in
-decimal_small zero n = omega arith
-decimal_small (suc most) n =
-    of_both (λ (l : List ℕ). length l ≤ suc most) (ltb n 10) (omega arith)
-    (rw length-append (omega (arith, decimal_small most (n / 10))))
-
-line_long : (w v : List ℕ) → length (line_of w v) ≡ length w + (1 + (length v + 1))
-line_long w v =
-    length-append (w ++ eq) (v ++ nl) ∙ omega (arith, length-append w eq, length-append v nl)
-
-number_long : (w : List ℕ) (n : ℕ) → length (line_of w (decimal n)) ≤ length w + 22
-number_long w n = omega (arith, line_long w (decimal n), decimal_small 20 n)
 
 settings_long : (s : Settings) → length (setting_lines s) ≤ 60
 settings_long s = simp length-append (omega (arith, name_small s.look))
 
 module _ (t : Told) (s : List ℕ) where
-  annotated_long : length (annotated s) ≤ 28200
-  annotated_long =
-      omega (arith, length-append (line_of annotations_word (decimal (length (fields_in s).annotations))) (lines (fields_in s).annotations), number_long annotations_word (length (fields_in s).annotations), tail_small s)
-
   deed_line_long : length (deed_printed s) ≤ 30
   deed_line_long = simp length-append (omega (arith, deed_small s))
 
@@ -56,10 +39,10 @@ module _ (t : Told) (s : List ℕ) where
   unfolding text_for
   report_fits =
       of_both (λ (l : List ℕ). length l ≤ room) (eqb t.number 0)
-      (omega (arith, length-append (status_line t) (deed_printed s ++ (setting_lines (settings_in s) ++ annotated s)), length-append (deed_printed s) (setting_lines (settings_in s) ++ annotated s), length-append (setting_lines (settings_in s)) (annotated s), status_long, deed_line_long, settings_long (settings_in s), annotated_long))
+      (omega (arith, length-append (status_line t) (deed_printed s ++ (setting_lines (settings_in s) ++ annotated s)), length-append (deed_printed s) (setting_lines (settings_in s) ++ annotated s), length-append (setting_lines (settings_in s)) (annotated s), status_long, deed_line_long, settings_long (settings_in s), annotated_long s))
       (of_both (λ (l : List ℕ). length l ≤ room) (eqb t.number 11)
       (omega (arith, length-append (status_line t) (place_line t), status_long, place_long))
-      (omega (arith, length-append (status_line t) (place_line t ++ (deed_printed s ++ annotated s)), length-append (place_line t) (deed_printed s ++ annotated s), length-append (deed_printed s) (annotated s), status_long, place_long, deed_line_long, annotated_long)))
+      (omega (arith, length-append (status_line t) (place_line t ++ (deed_printed s ++ annotated s)), length-append (place_line t) (deed_printed s ++ annotated s), length-append (deed_printed s) (annotated s), status_long, place_long, deed_line_long, annotated_long s)))
 
   -- so the bytes that a report's text holds are the report
   module _ (r : Text) (e : r ≡ text_of (text_for t s)) where

@@ -3,6 +3,7 @@ pub mod Decimals
 pub mod Texts
 pub mod Values
 pub mod Cases
+pub mod Longs
 pub mod Fits
 pub mod Enough
 pub mod Unique

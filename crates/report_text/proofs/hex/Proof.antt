@@ -17,7 +17,7 @@ hex_digit-requires-4 : tie.Need-hex_digit-requires-4
 hex_digit-requires-4 c κs = search rules
 
 returns : tie.Need-returns
-returns c = rw (div-one, c.hex_digit_lem.ensures, c.hex_digit-2.ensures, c.hex_digit-3.ensures, c.hex_digit-4.ensures)
+returns c = rw (div-one, c.hex_digit.ensures, c.hex_digit-2.ensures, c.hex_digit-3.ensures, c.hex_digit-4.ensures)
 
 pub hex_spec : {M : Type 1} → statement M
 hex_spec =
