@@ -4,7 +4,10 @@ use lib.Bits.{bit_and, and_mask}
 
 module _ (wide : ℕ) (runs : (wide ≡ 16) ⊎ (wide ≡ 32)) where
   -- the column of a byte, by a mask
-  pub column_masked : (k : ℕ) → bit_and k (wide - 1) ≡ k % wide
+  abbrev pub masked : ℕ → ℕ
+  masked k = bit_and k (wide - 1)
+
+  pub column_masked : (k : ℕ) → masked k ≡ k % wide
   column_masked k = ⊎_elim (λ e. rw e (and_mask k 4)) (λ e. rw e (and_mask k 5)) runs
 
   -- a number of lines is a number of runs

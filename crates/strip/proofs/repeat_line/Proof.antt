@@ -1,10 +1,9 @@
 -- `strip::repeat_line` meets its contract.
 use Rattle.std.proofs.Common.{◌≡◌, ℕ, ◌+◌, ◌-◌, ◌%◌, ◌<◌, ◌≤◌, get_or, sym, ap, ◌∙◌, zero-le, arith}
 use native.Mathlib.Nat.{mod_self}
-use lib.Bits.{bit_and}
 use Rattle.promises.specs.Written.{Filled}
 use Rattle.promises.proofs.Fills.{none, by, join, upto}
-use Rattle.strip.proofs.Columns.{column_masked, whole_runs, run_fits, run_column}
+use Rattle.strip.proofs.Columns.{masked, column_masked, whole_runs, run_fits, run_column}
 use Rattle.strip.proofs.repeat_line.Statement.{statement}
 use Rattle.strip.proofs.repeat_line.Tie as tie
 
@@ -21,7 +20,7 @@ start_of c = c.before.before
 abbrev column : tie.In-loop-to invariant-loop decreases-loop → ℕ
 column c = c.loop-to.to % (start_of c.before).args.wide
 
-column-is : (c : tie.In-loop-to invariant-loop decreases-loop) → bit_and c.loop-to.to ((start_of c.before).args.wide - 1) ≡ column c
+column-is : (c : tie.In-loop-to invariant-loop decreases-loop) → (let b = start_of c.before in masked b.args.wide b.requires.0 c.loop-to.to) ≡ column c
 column-is c = let b = start_of c.before in column_masked b.args.wide b.requires.0 c.loop-to.to
 
 -- the run ends within its line, and within what is to be made
