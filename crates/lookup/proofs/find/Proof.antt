@@ -25,6 +25,10 @@ own_of c = c.before.before.before
 abbrev begin-of : tie.After-struct_known-2-1 → tie.Start
 begin-of c = start_of (own_of c)
 
+-- where the record's sheet was found whole, from where it was found to lack the key
+abbrev accepted-of : tie.Else-here → tie.Else-not-of_record
+accepted-of c = c.before.before.before.before.before
+
 -- ---- the two sheets
 own-whole : (c : tie.Else-not-of_record) → WholeGiven (read_sheet (start_of c.before).args.«record».now) c.survey-of_record.result
 own-whole c = whole_given (read_sheet (start_of c.before).args.«record».now) c.survey-of_record.result c.survey-of_record.ensures (not-false _ c.if-not-of_record.false)
@@ -98,7 +102,7 @@ returns-then-there c =
     let s = c in
     let a = (begin-of c.before.before.before.before.before.before).args in
     let h : has_key a.cover.now a.key.now ≡ true = sym (ap (λ (x : Found). x.found) k.seek-there.ensures) ∙ c.if-there.true in
-    let e = in_cover a.«record».now a.cover.now a.key.now (own-whole c.before.before.before.before.before.before.before.before).is_got_lem (cover-whole c.before.before.before.before.before).is_got_lem (own-lacks c.before.before.before) h in (
+    let e = in_cover a.«record».now a.cover.now a.key.now (own-whole (accepted-of c.before.before.before)).is_got_lem (cover-whole c.before.before.before.before.before).is_got_lem (own-lacks c.before.before.before) h in (
       ap told_of c.taken-then-there.ensures.0 ∙ sym e.tells,
       c.taken-then-there.ensures.1 ∙ found_piece true a.cover.now a.key.now k.seek-there.result k.seek-there.ensures ∙ sym e.holds,
     )
@@ -113,7 +117,7 @@ returns-5 c =
     let s = c in
     let a = (begin-of c.before.before.before.before.before.before).args in
     let h : has_key a.cover.now a.key.now ≡ false = sym (ap (λ (x : Found). x.found) l.seek-there.ensures) ∙ l.if-there.false in
-    let e = in_neither a.«record».now a.cover.now a.key.now (own-whole c.before.before.before.before.before.before.before.before).is_got_lem (cover-whole c.before.before.before.before.before).is_got_lem (own-lacks c.before.before.before) h in
+    let e = in_neither a.«record».now a.cover.now a.key.now (own-whole (accepted-of c.before.before.before)).is_got_lem (cover-whole c.before.before.before.before.before).is_got_lem (own-lacks c.before.before.before) h in
     (ap told_of c.refused-2.ensures.0 ∙ sym e.tells, c.refused-2.ensures.1 ∙ sym e.holds)
 
 pub find_spec : {M : Type 1} → statement M
