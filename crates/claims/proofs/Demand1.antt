@@ -150,7 +150,7 @@ back_demand κs l frame strip z out p = (
 )
 
 -- both directions of the chips promise the same of what is lent and the room
-chip_demand : (k : ℕ) (lent room : Lent) (z : Answer) (out : List ℕ) → (told_of z ≡ chip_told k (length lent.now) (length room.now)) × (out ≡ chip_after k lent.now room.now)
+chip_demand : (k : ℕ) (lent : Lent) (room : Room) (z : Answer) (out : List ℕ) → (told_of z ≡ chip_told k (length lent.now) (length room.now)) × (out ≡ chip_after k lent.now room.now)
     → Ordered (told_of z) (chip_order k (length lent.now) (length room.now)) 0 × Guarded (told_of z) (length lent.now) room.now out
 unfolding chip_told
 chip_demand k lent room z out p = (

@@ -123,7 +123,7 @@ abbrev pub Fifteen : Answer → ℕ → Type 0
 Fifteen z k = ((told_of z).number ≡ 15) × ((told_of z).place ≡ k)
 
 -- nothing is refused by the settings and the lengths that are lent to both at once
-abbrev pub LengthsPass : Settings → Lent → Lent → Lent → Lent → Type 0
+abbrev pub LengthsPass : Settings → Lent → Lent → Room → Room → Type 0
 LengthsPass s image font strip frame = NoneHolds (show_lengths s (length image.now) (length font.now) (length strip.now) (length frame.now))
 
 -- then what is told is what is told of the fetched bytes
