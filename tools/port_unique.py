@@ -11,7 +11,7 @@ def turn(text):
     for dashed in set(re.findall(r"(?m)^use Rattle[\w.]+ as (\S+-\S+)$", text)):
         text = re.sub(rf"(?<![\w-]){dashed}(?=[.\n])", dashed.replace("-", "_"), text)
     text = re.sub(r"(?m)^use (Rattle\.\w+)\.proofs\.([\w.]+) as (\w+)\n", lambda m: f"use {m[1]}.proofs.{m[2]} as {m[3]}\nuse {m[1]}.specs.contracts.{m[2]} as {m[3]}_contract\n" if re.search(rf"\b{m[3]}\.(ended|clauses)\b", text) else m[0], text)
-    text = re.sub(r"\b(\w+)\.Key\.name\b", r"\1.Symbol.name", text)
+    text = re.sub(r"\b(\w+)\.Key\.name\b", r"\1.Symbol.symbol", text)
     text = re.sub(r"\bλ M\. (\w+)\.clauses\b", r"λ M 𝓤 𝓛. \1_contract.clauses 𝓛", text)
     return re.sub(r"\b(\w+?)(?<!_contract)\.ended\b", r"\1_contract.ended", text)
 

@@ -13,7 +13,7 @@ use Rattle.answer.proofs.check as check
 use Rattle.answer.specs.contracts.check as check_contract
 
 abbrev pub number_op : Operation
-number_op = record { key = number.Symbol.name; T = number_contract.ended; clauses = λ M 𝓤 𝓛. number_contract.clauses 𝓛; Says = number.Reads.Learnt; O = _; seen = λ κs. whole }
+number_op = record { key = number.Symbol.symbol; T = number_contract.ended; clauses = λ M 𝓤 𝓛. number_contract.clauses 𝓛; Says = number.Reads.Learnt; O = _; seen = λ κs. whole }
 
 pub number_fixes : Fixes number_op
 number_fixes = record {
@@ -23,7 +23,7 @@ number_fixes = record {
 }
 
 abbrev pub place_op : Operation
-place_op = record { key = place.Symbol.name; T = place_contract.ended; clauses = λ M 𝓤 𝓛. place_contract.clauses 𝓛; Says = place.Reads.Learnt; O = _; seen = λ κs. whole }
+place_op = record { key = place.Symbol.symbol; T = place_contract.ended; clauses = λ M 𝓤 𝓛. place_contract.clauses 𝓛; Says = place.Reads.Learnt; O = _; seen = λ κs. whole }
 
 pub place_fixes : Fixes place_op
 place_fixes = record {
@@ -33,7 +33,7 @@ place_fixes = record {
 }
 
 abbrev pub value_op : Operation
-value_op = record { key = value.Symbol.name; T = value_contract.ended; clauses = λ M 𝓤 𝓛. value_contract.clauses 𝓛; Says = value.Reads.Learnt; O = _; seen = λ κs. whole }
+value_op = record { key = value.Symbol.symbol; T = value_contract.ended; clauses = λ M 𝓤 𝓛. value_contract.clauses 𝓛; Says = value.Reads.Learnt; O = _; seen = λ κs. whole }
 
 pub value_fixes : Fixes value_op
 value_fixes = record {
@@ -43,7 +43,7 @@ value_fixes = record {
 }
 
 abbrev pub check_op : Operation
-check_op = record { key = check.Symbol.name; T = check_contract.ended; clauses = λ M 𝓤 𝓛. check_contract.clauses 𝓛; Says = check.Reads.Learnt; O = _; seen = λ κs. whole }
+check_op = record { key = check.Symbol.symbol; T = check_contract.ended; clauses = λ M 𝓤 𝓛. check_contract.clauses 𝓛; Says = check.Reads.Learnt; O = _; seen = λ κs. whole }
 
 pub check_fixes : Fixes check_op
 check_fixes = record {

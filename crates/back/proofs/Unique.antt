@@ -7,7 +7,7 @@ use Rattle.back.proofs.read_back as read_back
 use Rattle.back.specs.contracts.read_back as read_back_contract
 
 abbrev pub read_back_op : Operation
-read_back_op = record { key = read_back.Symbol.name; T = read_back_contract.ended; clauses = λ M 𝓤 𝓛. read_back_contract.clauses 𝓛; Says = read_back.Reads.Learnt; O = _; seen = λ κs. whole }
+read_back_op = record { key = read_back.Symbol.symbol; T = read_back_contract.ended; clauses = λ M 𝓤 𝓛. read_back_contract.clauses 𝓛; Says = read_back.Reads.Learnt; O = _; seen = λ κs. whole }
 
 pub read_back_fixes : Fixes read_back_op
 read_back_fixes = record {

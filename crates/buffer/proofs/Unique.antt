@@ -6,7 +6,7 @@ use Rattle.buffer.proofs.store as store
 use Rattle.buffer.specs.contracts.store as store_contract
 
 abbrev pub store_op : Operation
-store_op = record { key = store.Symbol.name; T = store_contract.ended; clauses = λ M 𝓤 𝓛. store_contract.clauses 𝓛; Says = store.Reads.Learnt; O = _; seen = λ κs. whole }
+store_op = record { key = store.Symbol.symbol; T = store_contract.ended; clauses = λ M 𝓤 𝓛. store_contract.clauses 𝓛; Says = store.Reads.Learnt; O = _; seen = λ κs. whole }
 
 pub store_fixes : Fixes store_op
 store_fixes = record {

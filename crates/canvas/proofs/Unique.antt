@@ -7,7 +7,7 @@ use Rattle.canvas.proofs.lay as lay
 use Rattle.canvas.specs.contracts.lay as lay_contract
 
 abbrev pub lay_op : Operation
-lay_op = record { key = lay.Symbol.name; T = lay_contract.ended; clauses = λ M 𝓤 𝓛. lay_contract.clauses 𝓛; Says = lay.Reads.Learnt; O = _; seen = λ κs. whole }
+lay_op = record { key = lay.Symbol.symbol; T = lay_contract.ended; clauses = λ M 𝓤 𝓛. lay_contract.clauses 𝓛; Says = lay.Reads.Learnt; O = _; seen = λ κs. whole }
 
 -- the answer is fixed, and so are all the entries and the whole canvas
 pub lay_fixes : Fixes lay_op

@@ -8,7 +8,7 @@ use Rattle.checksum.proofs.adler as adler
 use Rattle.checksum.specs.contracts.adler as adler_contract
 
 abbrev pub crc_op : Operation
-crc_op = record { key = crc.Symbol.name; T = crc_contract.ended; clauses = λ M 𝓤 𝓛. crc_contract.clauses 𝓛; Says = crc.Reads.Learnt; O = _; seen = λ κs. whole }
+crc_op = record { key = crc.Symbol.symbol; T = crc_contract.ended; clauses = λ M 𝓤 𝓛. crc_contract.clauses 𝓛; Says = crc.Reads.Learnt; O = _; seen = λ κs. whole }
 
 pub crc_fixes : Fixes crc_op
 crc_fixes = record {
@@ -18,7 +18,7 @@ crc_fixes = record {
 }
 
 abbrev pub adler_op : Operation
-adler_op = record { key = adler.Symbol.name; T = adler_contract.ended; clauses = λ M 𝓤 𝓛. adler_contract.clauses 𝓛; Says = adler.Reads.Learnt; O = _; seen = λ κs. whole }
+adler_op = record { key = adler.Symbol.symbol; T = adler_contract.ended; clauses = λ M 𝓤 𝓛. adler_contract.clauses 𝓛; Says = adler.Reads.Learnt; O = _; seen = λ κs. whole }
 
 pub adler_fixes : Fixes adler_op
 adler_fixes = record {

@@ -43,7 +43,7 @@ use Rattle.screen.specs.Show.{show_told, strip_shown, frame_shown}
 use Rattle.back.specs.Read.{values, read_byte}
 use Rattle.back.specs.Stray.{shows, leftmost, stray, first_stray}
 use Rattle.back.specs.Back.{back_pixels, back_told, strip_back}
-use Rattle.claims.proofs.Calls.{Lent, Touches, Fetches, Shows}
+use Rattle.claims.proofs.Calls.{Lent, Room, Touches, Fetches, Shows}
 
 -- of the pins: whether they are above 63, whether the text is external, A/G, GM2-GM0 and CSS
 pub record SameLook (l m : Look) : Type 0 where
@@ -201,7 +201,7 @@ module _ {s t : Settings} (e : SameFetches s t) where
     frame_shown_alike = rw (show_told_alike, strip_after_alike image strip, frame_after_alike e.look font (strip_after t image strip) frame)
 
   -- of two calls with the same contents lent: fetching gives the same answer and strip,
-  pub same_fetched : (κs κs' : Lfts 2) (image image' strip strip' : Lent) (z z' : Answer) (out out' : List ℕ)
+  pub same_fetched : (κs κs' : Lfts 2) (image image' : Lent) (strip strip' : Room) (z z' : Answer) (out out' : List ℕ)
       → image.now ≡ image'.now → strip.now ≡ strip'.now → Fetches κs s image strip z out → Fetches κs' t image' strip' z' out' → (z ≡ z') × (out ≡ out')
   same_fetched κs κs' image image' strip strip' z z' out out' i b p q = (
     one_answer (p.call.0 ∙ fetch_told_alike image.now strip.now) (q.call.0 ∙ rw (i, b)),
@@ -209,12 +209,12 @@ module _ {s t : Settings} (e : SameFetches s t) where
   )
 
   -- and reports the same count,
-  pub same_count : (κs κs' : Lfts 2) (image image' strip strip' : Lent) (z z' : Answer) (n n' : ℕ) (out out' : List ℕ)
+  pub same_count : (κs κs' : Lfts 2) (image image' : Lent) (strip strip' : Room) (z z' : Answer) (n n' : ℕ) (out out' : List ℕ)
       → image.now ≡ image'.now → strip.now ≡ strip'.now → Touches κs s image strip z n out → Touches κs' t image' strip' z' n' out' → n ≡ n'
   same_count κs κs' image image' strip strip' z z' n n' out out' i b p q = p.1.0 ∙ fetch_touched_alike image.now strip.now ∙ rw (i, b) (sym q.1.0)
 
   -- and both at once the same answer, strip and frame
-  pub same_shown : (κs κs' : Lfts 4) (image image' font font' strip strip' frame frame' : Lent) (z z' : Answer) (bytes bytes' pixels pixels' : List ℕ)
+  pub same_shown : (κs κs' : Lfts 4) (image image' font font' : Lent) (strip strip' frame frame' : Room) (z z' : Answer) (bytes bytes' pixels pixels' : List ℕ)
       → image.now ≡ image'.now → font.now ≡ font'.now → strip.now ≡ strip'.now → frame.now ≡ frame'.now
       → Shows κs s image font strip frame z bytes pixels → Shows κs' t image' font' strip' frame' z' bytes' pixels' → (z ≡ z') × (bytes ≡ bytes') × (pixels ≡ pixels')
   same_shown κs κs' image image' font font' strip strip' frame frame' z z' bytes bytes' pixels pixels' i f b x p q = (

@@ -17,7 +17,7 @@ use Rattle.strip.proofs.Places.{place_below, place_decoded, place_modulo, first_
 use Rattle.strip.proofs.Banks.{found, at_line_start}
 use Rattle.strip.proofs.Fetches.{Fits, accepted}
 use Rattle.screen.proofs.Shows.{fetched}
-use Rattle.claims.proofs.Calls.{Lent, Fetches, Shows}
+use Rattle.claims.proofs.Calls.{Lent, Room, Fetches, Shows}
 use Rattle.claims.proofs.Demand2.{Done}
 
 -- the bits of an address that a board decodes: its bank's and those below
@@ -44,11 +44,11 @@ fits_well s size n f = record {
 }
 
 -- Fetching, where it is done,
-pub fetched_well : (κs : Lfts 2) (s : Settings) (image strip : Lent) (z : Answer) (out : List ℕ) → Fetches κs s image strip z out → Done z → WellPlaced s (length image.now)
+pub fetched_well : (κs : Lfts 2) (s : Settings) (image : Lent) (strip : Room) (z : Answer) (out : List ℕ) → Fetches κs s image strip z out → Done z → WellPlaced s (length image.now)
 fetched_well κs s image strip z out p d = fits_well s (length image.now) (length strip.now) (accepted s image.now strip.now (rw p.call.0 at d))
 
 -- and both at once.
-pub shown_well : (κs : Lfts 4) (s : Settings) (image font strip frame : Lent) (z : Answer) (bytes pixels : List ℕ) → Shows κs s image font strip frame z bytes pixels → Done z → WellPlaced s (length image.now)
+pub shown_well : (κs : Lfts 4) (s : Settings) (image font : Lent) (strip frame : Room) (z : Answer) (bytes pixels : List ℕ) → Shows κs s image font strip frame z bytes pixels → Done z → WellPlaced s (length image.now)
 shown_well κs s image font strip frame z bytes pixels p d =
     fits_well s (length image.now) (length strip.now) (accepted s image.now strip.now (fetched s image.now font.now strip.now frame.now (rw p.0 at d)))
 

@@ -2,7 +2,7 @@
 use Prim.Native.Nat.{ℕ}
 use mathlib.Core.List.{List}
 use contract.Lifetimes.{Lfts}
-use denote.Ref.{Bor}
+use Rattle.std.specs.Borrow.{Bor, MutBor}
 use Rattle.promises.specs.Fixes.{Allows}
 use Rattle.answer.specs.declared.Answer.{Answer}
 use Rattle.settings.specs.declared.Look.{Look}
@@ -27,54 +27,58 @@ use Rattle.report_text.proofs.Unique.{report_op, report_after_op}
 abbrev pub Lent : Type 0
 Lent = Bor (List ℕ)
 
--- a lent list of placements
+-- a lent buffer that a call may write
+abbrev pub Room : Type 0
+Room = MutBor (List ℕ)
+
+-- a lent list of placements, whose entries a call may write
 abbrev pub Listed : Type 0
-Listed = Bor (List Placement)
+Listed = MutBor (List Placement)
 
 -- `play` with this word and these writes may answer z
 abbrev pub Plays : Lfts 1 → ℕ → Lent → Answer → Type 0
 Plays κs word writes z = Allows play_op κs (word, (writes, tt)) z (tt, (tt, tt))
 
 -- `fetch` may answer z, report the count t and leave `out` in the strip
-abbrev pub Touches : Lfts 2 → Settings → Lent → Lent → Answer → ℕ → List ℕ → Type 0
+abbrev pub Touches : Lfts 2 → Settings → Lent → Room → Answer → ℕ → List ℕ → Type 0
 Touches κs s image strip z t out = Allows fetch_op κs (s, (image, (strip, tt))) (record { answer = z; touched = t }) (tt, (tt, (out, tt)))
 
 -- `fetch` may answer z and leave `out` in the strip, whatever it reports
-pub record Fetches (κs : Lfts 2) (s : Settings) (image strip : Lent) (z : Answer) (out : List ℕ) : Type 0 where
+pub record Fetches (κs : Lfts 2) (s : Settings) (image : Lent) (strip : Room) (z : Answer) (out : List ℕ) : Type 0 where
   pub count : ℕ
   pub call : Touches κs s image strip z count out
 
 -- `draw` may answer z and leave `out` in the frame
-abbrev pub Draws : Lfts 3 → Look → Lent → Lent → Lent → Answer → List ℕ → Type 0
+abbrev pub Draws : Lfts 3 → Look → Lent → Lent → Room → Answer → List ℕ → Type 0
 Draws κs l font strip frame z out = Allows draw_op κs (l, (font, (strip, (frame, tt)))) z (tt, (tt, (tt, (out, tt))))
 
 -- `show` may answer z and leave `bytes` in the strip and `pixels` in the frame
-abbrev pub Shows : Lfts 4 → Settings → Lent → Lent → Lent → Lent → Answer → List ℕ → List ℕ → Type 0
+abbrev pub Shows : Lfts 4 → Settings → Lent → Lent → Room → Room → Answer → List ℕ → List ℕ → Type 0
 Shows κs s image font strip frame z bytes pixels =
     Allows show_op κs (s, (image, (font, (strip, (frame, tt))))) z (tt, (tt, (tt, (bytes, (pixels, tt)))))
 
 -- `read_back` may answer z and leave `out` in the strip
-abbrev pub ReadsBack : Lfts 2 → Look → Lent → Lent → Answer → List ℕ → Type 0
+abbrev pub ReadsBack : Lfts 2 → Look → Lent → Room → Answer → List ℕ → Type 0
 ReadsBack κs l frame strip z out = Allows read_back_op κs (l, (frame, (strip, tt))) z (tt, (tt, (out, tt)))
 
 -- `to_image` may answer z and leave `out` in the image
-abbrev pub ToImage : Lfts 2 → ℕ → Lent → Lent → Answer → List ℕ → Type 0
+abbrev pub ToImage : Lfts 2 → ℕ → Lent → Room → Answer → List ℕ → Type 0
 ToImage κs k chip image z out = Allows to_image_op κs (k, (chip, (image, tt))) z (tt, (tt, (out, tt)))
 
 -- `to_chip` may answer z and leave `out` in the chip
-abbrev pub ToChip : Lfts 2 → ℕ → Lent → Lent → Answer → List ℕ → Type 0
+abbrev pub ToChip : Lfts 2 → ℕ → Lent → Room → Answer → List ℕ → Type 0
 ToChip κs k image chip z out = Allows to_chip_op κs (k, (image, (chip, tt))) z (tt, (tt, (out, tt)))
 
 -- `lay` may answer z, and leave `entries` in the list and `out` on the canvas
-abbrev pub Lays : Lfts 3 → Lent → Listed → ℕ → ℕ → Lent → Answer → List Placement → List ℕ → Type 0
+abbrev pub Lays : Lfts 3 → Lent → Listed → ℕ → ℕ → Room → Answer → List Placement → List ℕ → Type 0
 Lays κs frame ps width height canvas z entries out = Allows lay_op κs (frame, (ps, (width, (height, (canvas, tt))))) z (tt, (entries, (tt, (tt, (out, tt)))))
 
 -- `encode` may answer z and leave `out` in the file
-abbrev pub Encodes : Lfts 2 → ℕ → Lent → Lent → Answer → List ℕ → Type 0
+abbrev pub Encodes : Lfts 2 → ℕ → Lent → Room → Answer → List ℕ → Type 0
 Encodes κs border frame png z out = Allows encode_op κs (border, (frame, (png, tt))) z (tt, (tt, (out, tt)))
 
 -- `decode` may answer z and leave `out` in the frame
-abbrev pub Decodes : Lfts 2 → Lent → Lent → Answer → List ℕ → Type 0
+abbrev pub Decodes : Lfts 2 → Lent → Room → Answer → List ℕ → Type 0
 Decodes κs png frame z out = Allows decode_op κs (png, (frame, tt)) z (tt, (out, tt))
 
 -- `settings_of` may give r

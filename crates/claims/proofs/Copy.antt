@@ -40,34 +40,34 @@ use Rattle.picture.proofs.Answers.{accepted as encode-accepted, accepts, each_by
 use Rattle.picture_back.specs.Decode.{border_read, pixel_read, decode_order, decode_told, frame_read}
 use Rattle.picture_back.proofs.Decodes.{accepted as decode-accepted, read_done}
 use Rattle.picture_back.proofs.RoundTrip.{told_back, frame_back, border_in, pixel_in, told_again, file_again}
-use Rattle.claims.proofs.Calls.{Lent, Shows, ReadsBack, Encodes, Decodes}
+use Rattle.claims.proofs.Calls.{Lent, Room, Shows, ReadsBack, Encodes, Decodes}
 use Rattle.claims.proofs.Demand1.{show_demand, decode_demand}
 use Rattle.claims.proofs.Demand2.{Done, value, shown_byte, shown_pixel, shown_border, one_strip, accepted_exactly}
 
 -- ==== What each of the two calls leaves.
 -- Done, `encode` leaves the file of the border and the frame's pixels, byte for byte.
-pub picture_byte : (κs : Lfts 2) (border : ℕ) (frame png : Lent) (z : Answer) (out : List ℕ) → Encodes κs border frame png z out → Done z
+pub picture_byte : (κs : Lfts 2) (border : ℕ) (frame : Lent) (png : Room) (z : Answer) (out : List ℕ) → Encodes κs border frame png z out → Done z
     → (k : ℕ) → k < file_length → get_or out k 0 ≡ (file border (pixels frame.now)).at k
 picture_byte κs border frame png z out p d k h =
     ap (λ (x : List ℕ). get_or x k 0) p.1
     ∙ (each_byte border frame.now png.now (encode-accepted border frame.now png.now (rw p.0 at d))).is k (omega arith) h
 
 -- Done, `decode` leaves the pixels that the file has,
-pub pixel_left : (κs : Lfts 2) (png frame : Lent) (z : Answer) (out : List ℕ) → Decodes κs png frame z out → Done z → (k : ℕ) → k < frame_length → get_or out k 0 ≡ pixel_read png.now k
+pub pixel_left : (κs : Lfts 2) (png : Lent) (frame : Room) (z : Answer) (out : List ℕ) → Decodes κs png frame z out → Done z → (k : ℕ) → k < frame_length → get_or out k 0 ≡ pixel_read png.now k
 pixel_left κs png frame z out p d k h =
     let n = rw p.0 at d in
     ap (λ (x : List ℕ). get_or x k 0) (p.1 ∙ read_done png.now frame.now n)
     ∙ (written_fills (pixel_read png.now) frame_length frame.now (decode-accepted png.now frame.now n).1).is k (omega arith) h
 
 -- and tells the border that it has.
-pub border_told : (κs : Lfts 2) (png frame : Lent) (z : Answer) (out : List ℕ) → Decodes κs png frame z out → Done z → value z ≡ border_read png.now
+pub border_told : (κs : Lfts 2) (png : Lent) (frame : Room) (z : Answer) (out : List ℕ) → Decodes κs png frame z out → Done z → value z ≡ border_read png.now
 unfolding decode_told
 border_told κs png frame z out p d =
     ap (λ (t : Told). t.value) (p.0 ∙ done_says (done (border_read png.now)) refl (decode_order png.now frame.now) tt (rw p.0 at d))
 
 -- ==== There and back.
 -- An `encode` that is done, then a `decode` of the bytes that it left, into a frame that is long enough: done with the border, and each pixel is the encoded frame's.
-pub picture_read : (κs κs' : Lfts 2) (border : ℕ) (frame png copy room : Lent) (z z' : Answer) (out out' : List ℕ)
+pub picture_read : (κs κs' : Lfts 2) (border : ℕ) (frame : Lent) (png : Room) (copy : Lent) (room : Room) (z z' : Answer) (out out' : List ℕ)
     → Encodes κs border frame png z out → Done z → copy.now ≡ take file_length out → frame_length ≤ length room.now → Decodes κs' copy room z' out'
     → Done z' × (value z' ≡ border) × ((k : ℕ) → k < frame_length → get_or out' k 0 ≡ get_or frame.now k 0)
 picture_read κs κs' border frame png copy room z z' out out' p d e long q =
@@ -80,7 +80,7 @@ picture_read κs κs' border frame png copy room z z' out out' p d e long q =
     )
 
 -- A `decode` that is done, then an `encode` of the border that it told and the frame that it left, with room for a file: done, and the file is the one decoded, byte for byte.
-pub read_pictured : (κs κs' : Lfts 2) (png frame read room : Lent) (z z' : Answer) (out out' : List ℕ)
+pub read_pictured : (κs κs' : Lfts 2) (png : Lent) (frame : Room) (read : Lent) (room : Room) (z z' : Answer) (out out' : List ℕ)
     → Decodes κs png frame z out → Done z → read.now ≡ out → file_length ≤ length room.now → Encodes κs' (value z) read room z' out'
     → Done z' × (take file_length out' ≡ png.now)
 read_pictured κs κs' png frame read room z z' out out' p d e long q =
@@ -92,7 +92,7 @@ read_pictured κs κs' png frame read room z z' out out' p d e long q =
     )
 
 -- two calls of `encode` that are done
-module _ (κs κs' : Lfts 2) (border border' : ℕ) (frame frame' png png' : Lent) (z z' : Answer) (out out' : List ℕ)
+module _ (κs κs' : Lfts 2) (border border' : ℕ) (frame frame' : Lent) (png png' : Room) (z z' : Answer) (out out' : List ℕ)
     (p : Encodes κs border frame png z out) (q : Encodes κs' border' frame' png' z' out') (d : Done z) (d' : Done z')
   where
     -- Two files that are equal were made of the same border and the same 49,152 pixels,
@@ -138,13 +138,13 @@ unfolding border
 border_low l = of_both (λ (x : ℕ). x ≤ 8) (graphics l) (omega arith) (of_both (λ (x : ℕ). x ≤ 8) (eqb (gm2 l) 0 || eqb (gm1 l) 1) (omega arith) (omega arith))
 
 -- a call of `show` that is done
-module _ (κs : Lfts 4) (s : Settings) (image font strip frame : Lent) (z : Answer) (bytes screen : List ℕ) (p : Shows κs s image font strip frame z bytes screen) (d : Done z) where
+module _ (κs : Lfts 4) (s : Settings) (image font : Lent) (strip frame : Room) (z : Answer) (bytes screen : List ℕ) (p : Shows κs s image font strip frame z bytes screen) (d : Done z) where
   -- drawing what was fetched is done
   draw_done : (draw_told s.look font.now (strip_after s image.now strip.now) frame.now).number ≡ 0
   draw_done = drawn s image.now font.now strip.now frame.now (rw p.0 at d)
 
   -- What `show` leaves, `encode` accepts wherever there is room for a file, in text as in graphics: a copy is never refused at its picture.
-  pub shown_pictured : (κs' : Lfts 2) (shown png : Lent) (z' : Answer) (out : List ℕ) → shown.now ≡ screen → file_length ≤ length png.now → Encodes κs' (value z) shown png z' out → Done z'
+  pub shown_pictured : (κs' : Lfts 2) (shown : Lent) (png : Room) (z' : Answer) (out : List ℕ) → shown.now ≡ screen → file_length ≤ length png.now → Encodes κs' (value z) shown png z' out → Done z'
   shown_pictured κs' shown png z' out e long q =
       let whole = (draw-accepted s.look font.now (strip_after s image.now strip.now) frame.now draw_done).frame_long in
       let kept = (show_demand κs s image font strip frame z bytes screen p).2.long in
@@ -169,7 +169,7 @@ module _ (κs : Lfts 4) (s : Settings) (image font strip frame : Lent) (z : Answ
       (lt_or_ge k (strip_length s.look))
 
   -- In graphics: what was shown, made a picture, read and read back with the same pins into a strip that is long enough gives each byte of the strip that was shown.
-  pub file_gives_strip : (κe κd κb : Lfts 2) (shown png copy room read again : Lent) (z₁ z₂ z₃ : Answer) (out out' back : List ℕ)
+  pub file_gives_strip : (κe κd κb : Lfts 2) (shown : Lent) (png : Room) (copy : Lent) (room : Room) (read : Lent) (again : Room) (z₁ z₂ z₃ : Answer) (out out' back : List ℕ)
       → graphics s.look ≡ true → Bytes image.now
       → shown.now ≡ screen → Encodes κe (value z) shown png z₁ out → Done z₁
       → copy.now ≡ take file_length out → frame_length ≤ length room.now → Decodes κd copy room z₂ out'

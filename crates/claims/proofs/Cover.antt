@@ -67,10 +67,10 @@ module _ (s key : Lent) (i : ℕ) (f : FirstUnder s key i) where
       }
 
 -- a sheet that `read` refuses is not accepted, and is told 11 with its place
-read_broken : (s : Lent) (κ : Lfts 1) (y : Sheet) → Reads κ s y → (Done y.answer → ⊥) → (accepted (now s) ≡ false) × (told_of y.answer ≡ told 11 (told_in (now s)).place 0)
+read_broken : (s : Lent) (κ : Lfts 1) (y : Sheet) → Reads κ s y → (Done y.answer → ⊥) → (accepted s.now ≡ false) × (told_of y.answer ≡ told 11 (told_in s.now).place 0)
 read_broken s κ y read refuses =
-    let t = read.told ∙ sheet_told (now s) in
-    by_test (accepted (now s)) (λ (a : accepted (now s) ≡ true). absurd (refuses (ap (λ (x : Told). x.number) t ∙ rw a))) (λ (a : accepted (now s) ≡ false). (a, t ∙ rw a))
+    let t = read.told ∙ sheet_told s.now in
+    by_test (accepted s.now) (λ (a : accepted s.now ≡ true). absurd (refuses (ap (λ (x : Told). x.number) t ∙ rw a))) (λ (a : accepted s.now ≡ false). (a, t ∙ rw a))
 
 -- two things told that differ in number or value are not one
 apart : {t u : Told} → t ≡ u → ((t.number ≡ u.number) × (t.value ≡ u.value) → ⊥) → ⊥

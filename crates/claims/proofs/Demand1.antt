@@ -59,7 +59,7 @@ use Rattle.report_text.specs.declared.Text.{Text}
 use Rattle.report_text.specs.Words.{held}
 use Rattle.report_text.specs.Report.{status_line, told_after}
 use Rattle.report_text.proofs.Fits.{holds_report, begins_with_status}
-use Rattle.claims.proofs.Calls.{Lent, Listed, Plays, Fetches, Draws, Shows, ReadsBack, ToImage, ToChip, Lays, Encodes, Decodes, TakesIn, Finds, Reports, ReportsAfter}
+use Rattle.claims.proofs.Calls.{Lent, Room, Listed, Plays, Fetches, Draws, Shows, ReadsBack, ToImage, ToChip, Lays, Encodes, Decodes, TakesIn, Finds, Reports, ReportsAfter}
 
 -- what is told is what the order says: each number exactly when its condition holds and none earlier does, done exactly when none does
 pub record Ordered (told : Told) (order : List Check) (value : ℕ) : Type 0 where
@@ -97,7 +97,7 @@ pub play_demand : (κs : Lfts 1) (word : ℕ) (writes : Lent) (z : Answer) → P
 unfolding play_told
 play_demand κs word writes z p = ordered (play_order word writes.now) (played word writes.now) tt p
 
-pub fetch_demand : (κs : Lfts 2) (s : Settings) (image strip : Lent) (z : Answer) (out : List ℕ) → Fetches κs s image strip z out
+pub fetch_demand : (κs : Lfts 2) (s : Settings) (image : Lent) (strip : Room) (z : Answer) (out : List ℕ) → Fetches κs s image strip z out
     → Ordered (told_of z) (fetch_order s (length image.now) (length strip.now)) (strip_length s.look) × Guarded (told_of z) (strip_length s.look) strip.now out
 unfolding fetch_told
 fetch_demand κs s image strip z out p = (
@@ -107,7 +107,7 @@ fetch_demand κs s image strip z out p = (
       (λ no. p.call.1.1 ∙ strip_refused s image.now strip.now (λ e. no (rw p.call.0 e))),
 )
 
-pub draw_demand : (κs : Lfts 3) (l : Look) (font strip frame : Lent) (z : Answer) (out : List ℕ) → Draws κs l font strip frame z out
+pub draw_demand : (κs : Lfts 3) (l : Look) (font strip : Lent) (frame : Room) (z : Answer) (out : List ℕ) → Draws κs l font strip frame z out
     → Ordered (told_of z) (draw_order l font.now strip.now frame.now) (border l) × Guarded (told_of z) frame_length frame.now out
 unfolding draw_told
 draw_demand κs l font strip frame z out p = (
@@ -118,7 +118,7 @@ draw_demand κs l font strip frame z out p = (
 )
 
 -- both buffers of both at once
-pub show_demand : (κs : Lfts 4) (s : Settings) (image font strip frame : Lent) (z : Answer) (bytes pixels : List ℕ) → Shows κs s image font strip frame z bytes pixels
+pub show_demand : (κs : Lfts 4) (s : Settings) (image font : Lent) (strip frame : Room) (z : Answer) (bytes pixels : List ℕ) → Shows κs s image font strip frame z bytes pixels
     → Ordered (told_of z) (show_order s image.now font.now strip.now frame.now) (border s.look)
     × Guarded (told_of z) (strip_length s.look) strip.now bytes
     × Guarded (told_of z) frame_length frame.now pixels
@@ -139,7 +139,7 @@ show_demand κs s image font strip frame z bytes pixels p = (
       (λ no. p.1.1 ∙ (shown_refused s image.now font.now strip.now frame.now (λ e. no (rw p.0 e))).1),
 )
 
-pub back_demand : (κs : Lfts 2) (l : Look) (frame strip : Lent) (z : Answer) (out : List ℕ) → ReadsBack κs l frame strip z out
+pub back_demand : (κs : Lfts 2) (l : Look) (frame : Lent) (strip : Room) (z : Answer) (out : List ℕ) → ReadsBack κs l frame strip z out
     → Ordered (told_of z) (back_order l frame.now strip.now) (strip_length l) × Guarded (told_of z) (strip_length l) strip.now out
 unfolding back_told back_pixels
 back_demand κs l frame strip z out p = (
@@ -150,7 +150,7 @@ back_demand κs l frame strip z out p = (
 )
 
 -- both directions of the chips promise the same of what is lent and the room
-chip_demand : (k : ℕ) (lent room : Lent) (z : Answer) (out : List ℕ) → (told_of z ≡ chip_told k (length lent.now) (length room.now)) × (out ≡ chip_after k lent.now room.now)
+chip_demand : (k : ℕ) (lent : Lent) (room : Room) (z : Answer) (out : List ℕ) → (told_of z ≡ chip_told k (length lent.now) (length room.now)) × (out ≡ chip_after k lent.now room.now)
     → Ordered (told_of z) (chip_order k (length lent.now) (length room.now)) 0 × Guarded (told_of z) (length lent.now) room.now out
 unfolding chip_told
 chip_demand k lent room z out p = (
@@ -160,11 +160,11 @@ chip_demand k lent room z out p = (
       (λ no. p.1 ∙ room_refused k lent.now room.now (λ e. no (rw p.0 e))),
 )
 
-pub to_image_demand : (κs : Lfts 2) (k : ℕ) (chip image : Lent) (z : Answer) (out : List ℕ) → ToImage κs k chip image z out
+pub to_image_demand : (κs : Lfts 2) (k : ℕ) (chip : Lent) (image : Room) (z : Answer) (out : List ℕ) → ToImage κs k chip image z out
     → Ordered (told_of z) (chip_order k (length chip.now) (length image.now)) 0 × Guarded (told_of z) (length chip.now) image.now out
 to_image_demand κs k chip image z out p = chip_demand k chip image z out p
 
-pub to_chip_demand : (κs : Lfts 2) (k : ℕ) (image chip : Lent) (z : Answer) (out : List ℕ) → ToChip κs k image chip z out
+pub to_chip_demand : (κs : Lfts 2) (k : ℕ) (image : Lent) (chip : Room) (z : Answer) (out : List ℕ) → ToChip κs k image chip z out
     → Ordered (told_of z) (chip_order k (length image.now) (length chip.now)) 0 × Guarded (told_of z) (length image.now) chip.now out
 to_chip_demand κs k image chip z out p = chip_demand k image chip z out p
 
@@ -177,7 +177,7 @@ pub record Spared (told : Told) (width : ℕ) (ps entries : List Placement) (can
   pub uncovered : (k : ℕ) → Each (λ (p : Placement). covers p (k % width) (k / width) ≡ false) ps → get_or out k 0 ≡ get_or canvas k 0
 
 -- placements on a canvas: 8, 18, 19, 20
-pub lay_demand : (κs : Lfts 3) (frame : Lent) (ps : Listed) (width height : ℕ) (canvas : Lent) (z : Answer) (entries : List Placement) (out : List ℕ) → Lays κs frame ps width height canvas z entries out
+pub lay_demand : (κs : Lfts 3) (frame : Lent) (ps : Listed) (width height : ℕ) (canvas : Room) (z : Answer) (entries : List Placement) (out : List ℕ) → Lays κs frame ps width height canvas z entries out
     → Ordered (told_of z) (lay_order (length frame.now) width height (length canvas.now) (length ps.now) (first_outside ps.now)) 0 × Spared (told_of z) width ps.now entries canvas.now out
 unfolding order_told
 lay_demand κs frame ps width height canvas z entries out p = (
@@ -192,7 +192,7 @@ lay_demand κs frame ps width height canvas z entries out p = (
 )
 
 -- the picture file: 8, 9, 14
-pub encode_demand : (κs : Lfts 2) (border : ℕ) (frame png : Lent) (z : Answer) (out : List ℕ) → Encodes κs border frame png z out
+pub encode_demand : (κs : Lfts 2) (border : ℕ) (frame : Lent) (png : Room) (z : Answer) (out : List ℕ) → Encodes κs border frame png z out
     → Ordered (told_of z) (encode_order border frame.now png.now) file_length × Guarded (told_of z) file_length png.now out
 unfolding encode_told
 encode_demand κs border frame png z out p = (
@@ -203,7 +203,7 @@ encode_demand κs border frame png z out p = (
 )
 
 -- and the frame out of it: 28, 8
-pub decode_demand : (κs : Lfts 2) (png frame : Lent) (z : Answer) (out : List ℕ) → Decodes κs png frame z out
+pub decode_demand : (κs : Lfts 2) (png : Lent) (frame : Room) (z : Answer) (out : List ℕ) → Decodes κs png frame z out
     → Ordered (told_of z) (decode_order png.now frame.now) (border_read png.now) × Guarded (told_of z) frame_length frame.now out
 unfolding decode_told
 decode_demand κs png frame z out p = (

@@ -56,7 +56,7 @@ use Rattle.report_text.specs.declared.Text.{Text}
 use Rattle.report_text.specs.Words.{held}
 use Rattle.report_text.specs.Report.{report_of, told_after, report_after}
 use Rattle.report_text.proofs.Fits.{holds_report, ends_with_lines}
-use Rattle.claims.proofs.Calls.{Lent, Plays, Fetches, Draws, Shows, ReadsBack, TakesIn, Reports, ReportsAfter}
+use Rattle.claims.proofs.Calls.{Lent, Room, Plays, Fetches, Draws, Shows, ReadsBack, TakesIn, Reports, ReportsAfter}
 
 -- the answer is done
 abbrev pub Done : Answer → Type 0
@@ -77,7 +77,7 @@ one_more_write κs κs' word a writes longer z z' e p q d d' =
     word_after_lem κs' word longer z' q d' ∙ ap (played word) e ∙ played_more word writes.now a ∙ ap (λ (w : ℕ). word_after w a) (sym (word_after_lem κs word writes z p d))
 
 -- (ii) Strip byte W × n + c is the image's byte at the place of line n, byte c, and the value told is the strip's length.
-pub strip_bytes : (κs : Lfts 2) (s : Settings) (image strip : Lent) (z : Answer) (out : List ℕ) → Fetches κs s image strip z out → Done z
+pub strip_bytes : (κs : Lfts 2) (s : Settings) (image : Lent) (strip : Room) (z : Answer) (out : List ℕ) → Fetches κs s image strip z out → Done z
     → (n c : ℕ) → n < 192 → c < width s.look → get_or out (width s.look * n + c) 0 ≡ get_or image.now (place_of s n c) 0
 unfolding fetch_address
 strip_bytes κs s image strip z out p d n c hn hc =
@@ -87,26 +87,26 @@ strip_bytes κs s image strip z out p d n c hn hc =
     (strip_byte s image.now strip.now (rw p.call.0 at d) (n * width s.look + c) (omega arith)
     ∙ rw (digits_div n hc, digits_mod n hc))
 
-pub strip_long : (κs : Lfts 2) (s : Settings) (image strip : Lent) (z : Answer) (out : List ℕ) → Fetches κs s image strip z out → Done z → value z ≡ strip_length s.look
+pub strip_long : (κs : Lfts 2) (s : Settings) (image : Lent) (strip : Room) (z : Answer) (out : List ℕ) → Fetches κs s image strip z out → Done z → value z ≡ strip_length s.look
 unfolding fetch_told
 strip_long κs s image strip z out p d =
     ap (λ (t : Told). t.value) (p.call.0 ∙ done_says (done (strip_length s.look)) refl (fetch_order s (length image.now) (length strip.now)) tt (rw p.call.0 at d))
 
 -- (iii) Each pixel is that of the picture, and the value told is the border.
-pub frame_pixels : (κs : Lfts 3) (l : Look) (font strip frame : Lent) (z : Answer) (out : List ℕ) → Draws κs l font strip frame z out → Done z
+pub frame_pixels : (κs : Lfts 3) (l : Look) (font strip : Lent) (frame : Room) (z : Answer) (out : List ℕ) → Draws κs l font strip frame z out → Done z
     → (k : ℕ) → k < frame_length → get_or out k 0 ≡ picture l font.now strip.now k
 frame_pixels κs l font strip frame z out p d k h =
     let e = rw p.0 at d in
     rw (p.1, frame_done l font.now strip.now frame.now e)
     ((written_fills (picture l font.now strip.now) frame_length frame.now (accepted l font.now strip.now frame.now e).frame_long).is k (omega arith) h)
 
-pub frame_border : (κs : Lfts 3) (l : Look) (font strip frame : Lent) (z : Answer) (out : List ℕ) → Draws κs l font strip frame z out → Done z → value z ≡ border l
+pub frame_border : (κs : Lfts 3) (l : Look) (font strip : Lent) (frame : Room) (z : Answer) (out : List ℕ) → Draws κs l font strip frame z out → Done z → value z ≡ border l
 unfolding draw_told
 frame_border κs l font strip frame z out p d =
     ap (λ (t : Told). t.value) (p.0 ∙ done_says (done (border l)) refl (draw_order l font.now strip.now frame.now) tt (rw p.0 at d))
 
 -- Both at once gives the same strip, the picture of that strip, and the border.
-module _ (κs : Lfts 4) (s : Settings) (image font strip frame : Lent) (z : Answer) (bytes pixels : List ℕ) (p : Shows κs s image font strip frame z bytes pixels) (d : Done z) where
+module _ (κs : Lfts 4) (s : Settings) (image font : Lent) (strip frame : Room) (z : Answer) (bytes pixels : List ℕ) (p : Shows κs s image font strip frame z bytes pixels) (d : Done z) where
   told_done : (show_told s image.now font.now strip.now frame.now).number ≡ 0
   told_done = rw p.0 at d
 
@@ -131,7 +131,7 @@ module _ (κs : Lfts 4) (s : Settings) (image font strip frame : Lent) (z : Answ
       (p.0 ∙ done_says (done (border s.look)) refl (show_order s image.now font.now strip.now frame.now) tt (rw p.0 at d))
 
 -- (iv) In graphics, what `draw` leaves `read_back` accepts, and gives the strip that was drawn.
-pub drawn_read_back : (κs : Lfts 3) (κs' : Lfts 2) (l : Look) (font strip frame back : Lent) (z z' : Answer) (out out' : List ℕ) (drawn : Lent)
+pub drawn_read_back : (κs : Lfts 3) (κs' : Lfts 2) (l : Look) (font strip : Lent) (frame back : Room) (z z' : Answer) (out out' : List ℕ) (drawn : Lent)
     → graphics l ≡ true → Draws κs l font strip frame z out → Done z → drawn.now ≡ out → strip_length l ≤ length back.now → ReadsBack κs' l drawn back z' out'
     → Done z' × (Bytes strip.now → (i : ℕ) → i < strip_length l → get_or out' i 0 ≡ get_or strip.now i 0)
 drawn_read_back κs κs' l font strip frame back z z' out out' drawn g p d e room q =
@@ -142,7 +142,7 @@ drawn_read_back κs κs' l font strip frame back z z' out out' drawn g p d e roo
     )
 
 -- What `read_back` accepts is what `draw` leaves for the strip that it gave,
-pub read_drawn_again : (κs : Lfts 2) (κs' : Lfts 3) (l : Look) (font frame strip again : Lent) (z z' : Answer) (out out' : List ℕ) (given : Lent)
+pub read_drawn_again : (κs : Lfts 2) (κs' : Lfts 3) (l : Look) (font frame : Lent) (strip again : Room) (z z' : Answer) (out out' : List ℕ) (given : Lent)
     → ReadsBack κs l frame strip z out → Done z → given.now ≡ out → frame_length ≤ length again.now → Draws κs' l font given again z' out'
     → Done z' × ((k : ℕ) → k < frame_length → get_or out' k 0 ≡ get_or frame.now k 0)
 read_drawn_again κs κs' l font frame strip again z z' out out' given p d e room q =
@@ -153,7 +153,7 @@ read_drawn_again κs κs' l font frame strip again z z' out out' given p d e roo
     )
 
 -- and that strip is the only one that draws the frame.
-pub one_strip : (κs : Lfts 2) (l : Look) (font : List ℕ) (frame strip : Lent) (z : Answer) (out : List ℕ) → ReadsBack κs l frame strip z out → Done z
+pub one_strip : (κs : Lfts 2) (l : Look) (font : List ℕ) (frame : Lent) (strip : Room) (z : Answer) (out : List ℕ) → ReadsBack κs l frame strip z out → Done z
     → (S : List ℕ) → Bytes S → DrawnBy l font S frame.now → (i : ℕ) → i < strip_length l → get_or out i 0 ≡ get_or S i 0
 one_strip κs l font frame strip z out p d S bytes draws i h =
     let n = rw p.0 at d in
@@ -166,7 +166,7 @@ nine_by true k v = (λ e. refl, λ e. refl)
 nine_by false k v = (λ e. absurd (omega arith), λ e. let z : ◌≡◌ {A = ℕ} 0 1 = cc in absurd (omega arith))
 
 -- Where the lengths are right, 9 is told exactly if no strip draws the frame, at the first pixel that is stray.
-pub nine_exactly : (κs : Lfts 2) (l : Look) (font : List ℕ) (frame strip : Lent) (z : Answer) (out : List ℕ) → ReadsBack κs l frame strip z out → graphics l ≡ true
+pub nine_exactly : (κs : Lfts 2) (l : Look) (font : List ℕ) (frame : Lent) (strip : Room) (z : Answer) (out : List ℕ) → ReadsBack κs l frame strip z out → graphics l ≡ true
     → (first_of (back_lengths l (length strip.now) (length frame.now)) (done (strip_length l))).number ≡ 0
     → (((told_of z).number ≡ 9) ↔ ((S : List ℕ) → Bytes S → DrawnBy l font S frame.now → ⊥)) × ((told_of z).number ≡ 9 → (told_of z).place ≡ first_stray l frame.now)
 unfolding back_pixels
@@ -179,7 +179,7 @@ nine_exactly κs l font frame strip z out p g lengths =
     )
 
 -- So, with graphics pins and buffers long enough, a frame is accepted exactly if some strip draws it.
-pub accepted_exactly : (κs : Lfts 2) (l : Look) (font : List ℕ) (frame strip : Lent) (z : Answer) (out : List ℕ) → ReadsBack κs l frame strip z out → graphics l ≡ true
+pub accepted_exactly : (κs : Lfts 2) (l : Look) (font : List ℕ) (frame : Lent) (strip : Room) (z : Answer) (out : List ℕ) → ReadsBack κs l frame strip z out → graphics l ≡ true
     → (first_of (back_lengths l (length strip.now) (length frame.now)) (done (strip_length l))).number ≡ 0
     → (Done z) ↔ ((S : List ℕ) × Bytes S × DrawnBy l font S frame.now)
 unfolding back_pixels

@@ -29,12 +29,12 @@ use Rattle.frame.specs.Draw.{draw_bytes}
 use Rattle.frame.proofs.Draws.{same_bytes}
 use Rattle.screen.specs.Show.{show_lengths}
 use Rattle.screen.proofs.Shows.{same_shown, told_fetched}
-use Rattle.claims.proofs.Calls.{Lent, Fetches, Shows}
+use Rattle.claims.proofs.Calls.{Lent, Room, Fetches, Shows}
 use Rattle.claims.proofs.Demand1.{fetch_demand, show_demand}
 use Rattle.claims.proofs.Demand2.{Done, shown_byte, shown_pixel}
 
 -- Fetching alone: images of one length that agree at the fetched places give the same answer and strip.
-pub fetch_window : (s : Settings) (κs κs' : Lfts 2) (image image' strip strip' : Lent) (z z' : Answer) (out out' : List ℕ)
+pub fetch_window : (s : Settings) (κs κs' : Lfts 2) (image image' : Lent) (strip strip' : Room) (z z' : Answer) (out out' : List ℕ)
     → length image.now ≡ length image'.now → strip.now ≡ strip'.now
     → ((a : ℕ) → Fetched s a → get_or image.now a 0 ≡ get_or image'.now a 0)
     → Fetches κs s image strip z out → Fetches κs' s image' strip' z' out' → (z ≡ z') × (out ≡ out')
@@ -44,7 +44,7 @@ fetch_window s κs κs' image image' strip strip' z z' out out' long same agree 
 )
 
 -- and where both calls are done, a strip byte differs exactly where the images differ at the place of its fetch; nothing else does.
-pub fetch_differs : (s : Settings) (κs κs' : Lfts 2) (image image' strip strip' : Lent) (z z' : Answer) (out out' : List ℕ)
+pub fetch_differs : (s : Settings) (κs κs' : Lfts 2) (image image' : Lent) (strip strip' : Room) (z z' : Answer) (out out' : List ℕ)
     → strip.now ≡ strip'.now
     → Fetches κs s image strip z out → Fetches κs' s image' strip' z' out' → Done z → Done z'
     → ((k : ℕ) → k < strip_length s.look
@@ -61,7 +61,7 @@ fetch_differs s κs κs' image image' strip strip' z z' out out' same p q d d' =
 
 module _
     (s : Settings)
-    (κs κs' : Lfts 4) (image image' font font' strip strip' frame frame' : Lent)
+    (κs κs' : Lfts 4) (image image' font font' : Lent) (strip strip' frame frame' : Room)
     (long : length image.now ≡ length image'.now) (same-font : font.now ≡ font'.now) (same-strips : strip.now ≡ strip'.now) (same-frames : frame.now ≡ frame'.now)
     (z z' : Answer) (bytes bytes' pixels pixels' : List ℕ)
     (p : Shows κs s image font strip frame z bytes pixels) (q : Shows κs' s image' font' strip' frame' z' bytes' pixels')
@@ -123,11 +123,11 @@ abbrev pub Fifteen : Answer → ℕ → Type 0
 Fifteen z k = ((told_of z).number ≡ 15) × ((told_of z).place ≡ k)
 
 -- nothing is refused by the settings and the lengths that are lent to both at once
-abbrev pub LengthsPass : Settings → Lent → Lent → Lent → Lent → Type 0
+abbrev pub LengthsPass : Settings → Lent → Lent → Room → Room → Type 0
 LengthsPass s image font strip frame = NoneHolds (show_lengths s (length image.now) (length font.now) (length strip.now) (length frame.now))
 
 -- then what is told is what is told of the fetched bytes
-pub told_by_bytes : (s : Settings) (κs : Lfts 4) (image font strip frame : Lent) (z : Answer) (bytes pixels : List ℕ) → Shows κs s image font strip frame z bytes pixels
+pub told_by_bytes : (s : Settings) (κs : Lfts 4) (image font : Lent) (strip frame : Room) (z : Answer) (bytes pixels : List ℕ) → Shows κs s image font strip frame z bytes pixels
     → LengthsPass s image font strip frame → told_of z ≡ first_of (draw_bytes s.look (fetched_byte s image.now)) (done (border s.look))
 told_by_bytes s κs image font strip frame z bytes pixels p none =
     p.0
@@ -136,7 +136,7 @@ told_by_bytes s κs image font strip frame z bytes pixels p none =
 
 -- Whether 15 is told, and its place, depends on nothing but the fetched bytes: two calls with the same settings, of which no length is
 -- refused, are told it alike where each fetch fetches the same byte in both, whatever else is in images, fonts and buffers.
-pub fifteen_felt : (s : Settings) (κs κs' : Lfts 4) (image image' font font' strip strip' frame frame' : Lent) (z z' : Answer) (bytes bytes' pixels pixels' : List ℕ)
+pub fifteen_felt : (s : Settings) (κs κs' : Lfts 4) (image image' font font' : Lent) (strip strip' frame frame' : Room) (z z' : Answer) (bytes bytes' pixels pixels' : List ℕ)
     → Shows κs s image font strip frame z bytes pixels → Shows κs' s image' font' strip' frame' z' bytes' pixels'
     → LengthsPass s image font strip frame → LengthsPass s image' font' strip' frame'
     → ((k : ℕ) → k < strip_length s.look → fetched_byte s image.now k ≡ fetched_byte s image'.now k)

@@ -34,7 +34,7 @@ use Rattle.valid.specs.Valid.{first_not_valid, not_valid_byte}
 use Rattle.valid.proofs.Valids.{FirstHigh, is_first, first_is}
 use Rattle.frame.specs.Draw.{draw_lengths, draw_bytes}
 use Rattle.frame.proofs.Draws.{told_passed}
-use Rattle.claims.proofs.Calls.{Lent, Fetches, Draws, Shows}
+use Rattle.claims.proofs.Calls.{Lent, Room, Fetches, Draws, Shows}
 use Rattle.claims.proofs.Demand1.{fetch_demand, draw_demand, show_demand}
 use Rattle.claims.proofs.Demand3.{Fifteen, LengthsPass, told_by_bytes}
 use Rattle.claims.proofs.LowerCase.{Painted, Inverted, NotInverted, same_pixel}
@@ -89,7 +89,7 @@ pub two_not_given : (z : Answer) → (told_of z).number ≡ 2 → ⊥
 two_not_given = not_two
 
 -- "6 asks for 3,072 here": a drawing of external text is told 6 exactly if the font has another length, whatever else is wrong behind that.
-pub six_exactly : (κs : Lfts 3) (l : Look) (font strip frame : Lent) (z : Answer) (out : List ℕ) → Draws κs l font strip frame z out → external l ≡ true → l.pins ≤ 63
+pub six_exactly : (κs : Lfts 3) (l : Look) (font strip : Lent) (frame : Room) (z : Answer) (out : List ℕ) → Draws κs l font strip frame z out → external l ≡ true → l.pins ≤ 63
     → ((told_of z).number ≡ 6) ↔ (length font.now ≡ 3072 → ⊥)
 unfolding font_size
 six_exactly κs l font strip frame z out p x low =
@@ -118,7 +118,7 @@ fifteen_of l bytes z k e =
 
 -- "15, with the strip index, for the first byte of 128 or more, checked last by drawing": where no length is refused, 15 is told at k exactly if
 -- the text is external and byte k of the strip is its first of 128 or more,
-pub draw_fifteen : (κs : Lfts 3) (l : Look) (font strip frame : Lent) (z : Answer) (out : List ℕ) → Draws κs l font strip frame z out
+pub draw_fifteen : (κs : Lfts 3) (l : Look) (font strip : Lent) (frame : Room) (z : Answer) (out : List ℕ) → Draws κs l font strip frame z out
     → NoneHolds (draw_lengths l (length font.now) (length strip.now) (length frame.now))
     → (k : ℕ) → Fifteen z k ↔ ((external l ≡ true) × FirstHigh l (λ (j : ℕ). get_or strip.now j 0) k)
 draw_fifteen κs l font strip frame z out p none k =
@@ -127,20 +127,20 @@ draw_fifteen κs l font strip frame z out p none k =
     (p.0 ∙ told_passed l font.now strip.now frame.now (λ (j : ℕ). get_or strip.now j 0) ((done_when (done (border l)) refl order tt).1 none) (λ j _. refl))
 
 -- "and by both at once": the same of the bytes that are fetched;
-pub show_fifteen : (κs : Lfts 4) (s : Settings) (image font strip frame : Lent) (z : Answer) (bytes pixels : List ℕ) → Shows κs s image font strip frame z bytes pixels
+pub show_fifteen : (κs : Lfts 4) (s : Settings) (image font : Lent) (strip frame : Room) (z : Answer) (bytes pixels : List ℕ) → Shows κs s image font strip frame z bytes pixels
     → LengthsPass s image font strip frame → (k : ℕ) → Fifteen z k ↔ ((external s.look ≡ true) × FirstHigh s.look (fetched_byte s image.now) k)
 show_fifteen κs s image font strip frame z bytes pixels p none k =
     fifteen_of s.look (fetched_byte s image.now) z k (told_by_bytes s κs image font strip frame z bytes pixels p none)
 
 -- "never by fetching alone".
-pub fetch_not_fifteen : (κs : Lfts 2) (s : Settings) (image strip : Lent) (z : Answer) (out : List ℕ) → Fetches κs s image strip z out → (told_of z).number ≡ 15 → ⊥
+pub fetch_not_fifteen : (κs : Lfts 2) (s : Settings) (image : Lent) (strip : Room) (z : Answer) (out : List ℕ) → Fetches κs s image strip z out → (told_of z).number ≡ 15 → ⊥
 fetch_not_fifteen κs s image strip z out p e = never 15 (fetch_order s (length image.now) (length strip.now)) tt (((fetch_demand κs s image strip z out p).0.each 15 (omega arith)).0 e)
 
 -- With 15 every buffer is as it was: the frame that was drawn on, and strip and frame of both at once.
-pub draw_kept : (κs : Lfts 3) (l : Look) (font strip frame : Lent) (z : Answer) (out : List ℕ) → Draws κs l font strip frame z out → (told_of z).number ≡ 15 → out ≡ frame.now
+pub draw_kept : (κs : Lfts 3) (l : Look) (font strip : Lent) (frame : Room) (z : Answer) (out : List ℕ) → Draws κs l font strip frame z out → (told_of z).number ≡ 15 → out ≡ frame.now
 draw_kept κs l font strip frame z out p e = (draw_demand κs l font strip frame z out p).1.refused (λ d. omega arith)
 
-pub show_kept : (κs : Lfts 4) (s : Settings) (image font strip frame : Lent) (z : Answer) (bytes pixels : List ℕ) → Shows κs s image font strip frame z bytes pixels
+pub show_kept : (κs : Lfts 4) (s : Settings) (image font : Lent) (strip frame : Room) (z : Answer) (bytes pixels : List ℕ) → Shows κs s image font strip frame z bytes pixels
     → (told_of z).number ≡ 15 → (bytes ≡ strip.now) × (pixels ≡ frame.now)
 show_kept κs s image font strip frame z bytes pixels p e =
     let d = show_demand κs s image font strip frame z bytes pixels p in

@@ -17,7 +17,7 @@ use Rattle.settings.specs.declared.Rule.TheVariants.{One}
 use Rattle.settings.specs.declared.Settings.{Settings}
 use Rattle.settings.specs.Fields.{look_of, settings_of, rule_number, bits, video_mode, offset, memory, graphics, gm, css}
 use Rattle.control.specs.Control.{with_bit}
-use Rattle.claims.proofs.Calls.{Lent, Touches, Fetches, Draws, Shows, ReadsBack}
+use Rattle.claims.proofs.Calls.{Lent, Room, Touches, Fetches, Draws, Shows, ReadsBack}
 use Rattle.claims.proofs.Alikes.{SameLook, SameFetches, by_fields, same_fetched, same_count, same_shown, draw_told_alike, frame_after_alike, back_told_alike, strip_back_alike}
 use Rattle.claims.proofs.Alikes.{by_number, by_rule, by_bit, by_high, bits_below, bits_above}
 
@@ -78,16 +78,16 @@ same_settings : (s t : Settings) → Alike felt s t → SameFetches s t
 same_settings s t (v, (f, (r, (m, (u, look))))) = by_fields s t v f (ap (λ (n : ℕ). eqb n 1) r) m (by_rule s.rule t.rule u) (same_look s.look t.look look)
 
 -- Fetching: settings that are alike in what is felt give the same answer and strip.
-pub felt_fetch : (s t : Settings) → Alike felt s t → (κs κs' : Lfts 2) (image image' strip strip' : Lent) (z z' : Answer) (out out' : List ℕ)
+pub felt_fetch : (s t : Settings) → Alike felt s t → (κs κs' : Lfts 2) (image image' : Lent) (strip strip' : Room) (z z' : Answer) (out out' : List ℕ)
     → image.now ≡ image'.now → strip.now ≡ strip'.now → Fetches κs s image strip z out → Fetches κs' t image' strip' z' out' → (z ≡ z') × (out ≡ out')
 felt_fetch s t a = same_fetched (same_settings s t a)
 
-pub felt_count : (s t : Settings) → Alike felt s t → (κs κs' : Lfts 2) (image image' strip strip' : Lent) (z z' : Answer) (n n' : ℕ) (out out' : List ℕ)
+pub felt_count : (s t : Settings) → Alike felt s t → (κs κs' : Lfts 2) (image image' : Lent) (strip strip' : Room) (z z' : Answer) (n n' : ℕ) (out out' : List ℕ)
     → image.now ≡ image'.now → strip.now ≡ strip'.now → Touches κs s image strip z n out → Touches κs' t image' strip' z' n' out' → n ≡ n'
 felt_count s t a = same_count (same_settings s t a)
 
 -- Drawing: the same answer and frame.
-pub felt_draw : (l m : Look) → Alike felt_look l m → (κs κs' : Lfts 3) (font font' strip strip' frame frame' : Lent) (z z' : Answer) (out out' : List ℕ)
+pub felt_draw : (l m : Look) → Alike felt_look l m → (κs κs' : Lfts 3) (font font' strip strip' : Lent) (frame frame' : Room) (z z' : Answer) (out out' : List ℕ)
     → font.now ≡ font'.now → strip.now ≡ strip'.now → frame.now ≡ frame'.now
     → Draws κs l font strip frame z out → Draws κs' m font' strip' frame' z' out' → (z ≡ z') × (out ≡ out')
 felt_draw l m a κs κs' font font' strip strip' frame frame' z z' out out' f b x p q =
@@ -98,13 +98,13 @@ felt_draw l m a κs κs' font font' strip strip' frame frame' z z' out out' f b 
 
 -- Both at once: the same answer, strip and frame.
 pub felt_show : (s t : Settings) → Alike felt s t
-    → (κs κs' : Lfts 4) (image image' font font' strip strip' frame frame' : Lent) (z z' : Answer) (bytes bytes' pixels pixels' : List ℕ)
+    → (κs κs' : Lfts 4) (image image' font font' : Lent) (strip strip' frame frame' : Room) (z z' : Answer) (bytes bytes' pixels pixels' : List ℕ)
     → image.now ≡ image'.now → font.now ≡ font'.now → strip.now ≡ strip'.now → frame.now ≡ frame'.now
     → Shows κs s image font strip frame z bytes pixels → Shows κs' t image' font' strip' frame' z' bytes' pixels' → (z ≡ z') × (bytes ≡ bytes') × (pixels ≡ pixels')
 felt_show s t a = same_shown (same_settings s t a)
 
 -- Reading back: the same answer and strip.
-pub felt_back : (l m : Look) → Alike felt_look l m → (κs κs' : Lfts 2) (frame frame' strip strip' : Lent) (z z' : Answer) (out out' : List ℕ)
+pub felt_back : (l m : Look) → Alike felt_look l m → (κs κs' : Lfts 2) (frame frame' : Lent) (strip strip' : Room) (z z' : Answer) (out out' : List ℕ)
     → frame.now ≡ frame'.now → strip.now ≡ strip'.now → ReadsBack κs l frame strip z out → ReadsBack κs' m frame' strip' z' out' → (z ≡ z') × (out ≡ out')
 felt_back l m a κs κs' frame frame' strip strip' z z' out out' x b p q =
     let e = same_look l m a in (

@@ -24,7 +24,7 @@ use Rattle.pixel.specs.Picture.{picture}
 use Rattle.pixel.proofs.LetterDots.{byte_at, dot_of, Exchanged, shows_lower, shows_other, same_letter, text_dot, letter_dot, gm1_turns}
 use Rattle.frame.specs.Draw.{draw_order}
 use Rattle.frame.proofs.Draws.{bytes_internal}
-use Rattle.claims.proofs.Calls.{Lent, Draws, Shows}
+use Rattle.claims.proofs.Calls.{Lent, Room, Draws, Shows}
 use Rattle.claims.proofs.Demand2.{Done, frame_pixels, shown_pixel}
 
 -- Each pixel is that of the picture: so it is of what a done call of `draw` leaves, with the strip that it was lent, and of what one of
@@ -32,11 +32,11 @@ use Rattle.claims.proofs.Demand2.{Done, frame_pixels, shown_pixel}
 abbrev pub Painted : Look → List ℕ → List ℕ → List ℕ → Type 0
 Painted l font strip out = (k : ℕ) → k < frame_length → get_or out k 0 ≡ picture l font strip k
 
-pub draw_paints : (κs : Lfts 3) (l : Look) (font strip frame : Lent) (z : Answer) (out : List ℕ) → Draws κs l font strip frame z out → Done z
+pub draw_paints : (κs : Lfts 3) (l : Look) (font strip : Lent) (frame : Room) (z : Answer) (out : List ℕ) → Draws κs l font strip frame z out → Done z
     → Painted l font.now strip.now out
 draw_paints κs l font strip frame z out = frame_pixels κs l font strip frame z out
 
-pub show_paints : (κs : Lfts 4) (s : Settings) (image font strip frame : Lent) (z : Answer) (bytes pixels : List ℕ)
+pub show_paints : (κs : Lfts 4) (s : Settings) (image font : Lent) (strip frame : Room) (z : Answer) (bytes pixels : List ℕ)
     → Shows κs s image font strip frame z bytes pixels → Done z → Painted s.look font.now bytes pixels
 show_paints κs s image font strip frame z bytes pixels = shown_pixel κs s image font strip frame z bytes pixels
 

@@ -15,11 +15,11 @@ use Rattle.plans.specs.Canvas.{area, pixels_on, entered, covers, pixel_of, laid,
 use Rattle.plans.proofs.Refusals.{fits, entries_done, canvas_done}
 use Rattle.plans.proofs.Layers.{laid_at}
 use Rattle.plans.proofs.Covers.{stays, last, LandAlike, laid_alike, laid_without, each_entry, entry_sum, entry_on}
-use Rattle.claims.proofs.Calls.{Lent, Listed, Lays}
+use Rattle.claims.proofs.Calls.{Lent, Room, Listed, Lays}
 use Rattle.claims.proofs.Demand2.{Done}
 
 -- ==== A call that is done. Pixel k of the canvas lies at column k mod width, line k / width.
-module _ (κs : Lfts 3) (frame : Lent) (ps : Listed) (width height : ℕ) (canvas : Lent) (z : Answer) (entries : List Placement) (out : List ℕ)
+module _ (κs : Lfts 3) (frame : Lent) (ps : Listed) (width height : ℕ) (canvas : Room) (z : Answer) (entries : List Placement) (out : List ℕ)
     (p : Lays κs frame ps width height canvas z entries out) (d : Done z) where
   accepted : (lay_told frame.now ps.now width height canvas.now).number ≡ 0
   accepted = ap (λ (t : Told). t.number) (sym p.0) ∙ d
@@ -57,7 +57,7 @@ module _ (κs : Lfts 3) (frame : Lent) (ps : Listed) (width height : ℕ) (canva
   others_stay k h off = pixel k ∙ laid_at frame.now width ps.now canvas.now k h ∙ stays frame.now (k % width) (k / width) ps.now (get_or canvas.now k 0) off
 
 -- ==== "What falls off any edge is cut": it changes nothing. Two calls that are done leave the same canvas
-module _ (κs κs' : Lfts 3) (frame frame' : Lent) (ps ps' : Listed) (width height : ℕ) (canvas canvas' : Lent) (z z' : Answer) (entries entries' : List Placement) (out out' : List ℕ)
+module _ (κs κs' : Lfts 3) (frame frame' : Lent) (ps ps' : Listed) (width height : ℕ) (canvas canvas' : Room) (z z' : Answer) (entries entries' : List Placement) (out out' : List ℕ)
     (p : Lays κs frame ps width height canvas z entries out) (d : Done z) (p' : Lays κs' frame' ps' width height canvas' z' entries' out') (d' : Done z') (same : canvas.now ≡ canvas'.now) where
   abbrev before : List ℕ
   before = canvas'.now

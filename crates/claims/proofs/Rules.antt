@@ -36,7 +36,7 @@ use Rattle.report_text.specs.declared.Text.{Text}
 use Rattle.report_text.specs.Words.{control_word, line_of, held}
 use Rattle.report_text.specs.Report.{status_line, deed_printed, rule_printed, view_lines, annotated}
 use Rattle.report_text.proofs.Cases.{report_done}
-use Rattle.claims.proofs.Calls.{Lent, Fetches, Shows, TakesIn, Reports}
+use Rattle.claims.proofs.Calls.{Lent, Room, Fetches, Shows, TakesIn, Reports}
 use Rattle.claims.proofs.Demand1.{settings_demand}
 use Rattle.claims.proofs.Demand2.{Done, strip_bytes, valid_read, sheet_settings, printed}
 use Rattle.claims.proofs.Alikes.{by_rules, same_fetched, same_shown}
@@ -47,13 +47,13 @@ unfolding paired
 rules_agree s p n c = paired_agree (under Two s) p One n c
 
 -- So fetching gives the same answer and strip under both, of the same contents lent;
-pub agree_in_strip : (s : Settings) → paired s ≡ true → (κs κs' : Lfts 2) (image image' strip strip' : Lent) (z z' : Answer) (out out' : List ℕ)
+pub agree_in_strip : (s : Settings) → paired s ≡ true → (κs κs' : Lfts 2) (image image' : Lent) (strip strip' : Room) (z z' : Answer) (out out' : List ℕ)
     → image.now ≡ image'.now → strip.now ≡ strip'.now → Fetches κs (under One s) image strip z out → Fetches κs' (under Two s) image' strip' z' out' → (z ≡ z') × (out ≡ out')
 agree_in_strip s p = same_fetched (by_rules s One Two (rules_agree s p))
 
 -- and both at once give the same answer, strip and frame.
 pub agree_in_frame : (s : Settings) → paired s ≡ true
-    → (κs κs' : Lfts 4) (image image' font font' strip strip' frame frame' : Lent) (z z' : Answer) (bytes bytes' pixels pixels' : List ℕ)
+    → (κs κs' : Lfts 4) (image image' font font' : Lent) (strip strip' frame frame' : Room) (z z' : Answer) (bytes bytes' pixels pixels' : List ℕ)
     → image.now ≡ image'.now → font.now ≡ font'.now → strip.now ≡ strip'.now → frame.now ≡ frame'.now
     → Shows κs (under One s) image font strip frame z bytes pixels → Shows κs' (under Two s) image' font' strip' frame' z' bytes' pixels'
     → (z ≡ z') × (bytes ≡ bytes') × (pixels ≡ pixels')
@@ -118,7 +118,7 @@ pub rules_differ : address_of (p8 One) 100 0 ≡ address_of (p8 Two) 100 0 → �
 rules_differ e = omega (arith, p8_one, p8_two)
 
 -- so that of every image whose bytes at these places differ, the two strips differ.
-pub differ_in_strip : (κs κs' : Lfts 2) (image strip strip' : Lent) (z z' : Answer) (out out' : List ℕ)
+pub differ_in_strip : (κs κs' : Lfts 2) (image : Lent) (strip strip' : Room) (z z' : Answer) (out out' : List ℕ)
     → Fetches κs (p8 One) image strip z out → Fetches κs' (p8 Two) image strip' z' out' → Done z → Done z'
     → (get_or image.now 0x0000 0 ≡ get_or image.now 0x0100 0 → ⊥) → out ≡ out' → ⊥
 unfolding image_place width

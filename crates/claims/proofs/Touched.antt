@@ -32,7 +32,7 @@ use Rattle.strip.proofs.Banks.{none_missing, none_refused}
 use Rattle.strip.proofs.Fetches.{touched_done, touched_refused}
 use Rattle.strip.proofs.Walks.{read_small}
 use Rattle.strip.proofs.Touched.{touched_count}
-use Rattle.claims.proofs.Calls.{Lent, Touches}
+use Rattle.claims.proofs.Calls.{Lent, Room, Touches}
 use Rattle.claims.proofs.Demand2.{Done}
 use Rattle.claims.proofs.Unfit.{fetch_accepts}
 
@@ -52,7 +52,7 @@ not_counted s n = (
 )
 
 -- ==== The count of a call.
-module _ (κs : Lfts 2) (s : Settings) (image strip : Lent) (z : Answer) (t : ℕ) (out : List ℕ) (p : Touches κs s image strip z t out) where
+module _ (κs : Lfts 2) (s : Settings) (image : Lent) (strip : Room) (z : Answer) (t : ℕ) (out : List ℕ) (p : Touches κs s image strip z t out) where
   -- done, it is W times the number of those lines, and in plain numbers W times 192 by the lines that have the places of one
   pub counts_lines : Done z → t ≡ width s.look * how_many (line_touched s) 192
   unfolding touched_bytes
@@ -72,7 +72,7 @@ module _ (κs : Lfts 2) (s : Settings) (image strip : Lent) (z : Answer) (t : �
 
 -- No byte of an image is felt by it: two calls with the same settings, images of one length and strips of one length report the same.
 -- So do images that agree at the fetched places (demand 3).
-pub count_window : (s : Settings) (κs κs' : Lfts 2) (image image' strip strip' : Lent) (z z' : Answer) (t t' : ℕ) (out out' : List ℕ)
+pub count_window : (s : Settings) (κs κs' : Lfts 2) (image image' : Lent) (strip strip' : Room) (z z' : Answer) (t t' : ℕ) (out out' : List ℕ)
     → length image.now ≡ length image'.now → length strip.now ≡ length strip'.now
     → Touches κs s image strip z t out → Touches κs' s image' strip' z' t' out' → t ≡ t'
 unfolding fetch_touched fetch_told
@@ -85,7 +85,7 @@ module _ (s : Settings) (picture : graphics s.look ≡ true) (one : gm s.look �
   narrow = rw (picture, one)
 
   -- done, with L lines of one line's places
-  count_of : (L : ℕ) → line_lasts s ≡ L → (κs : Lfts 2) (image strip : Lent) (z : Answer) (t : ℕ) (out : List ℕ) → Touches κs s image strip z t out → Done z → t ≡ 16 * (192 / L)
+  count_of : (L : ℕ) → line_lasts s ≡ L → (κs : Lfts 2) (image : Lent) (strip : Room) (z : Answer) (t : ℕ) (out : List ℕ) → Touches κs s image strip z t out → Done z → t ≡ 16 * (192 / L)
   count_of L e κs image strip z t out p d = counts_stretches κs s image strip z t out p d ∙ ap₂ (λ (w l : ℕ). w * (192 / l)) narrow e
 
   module _ (mode : video_mode s ≡ 1) where
@@ -97,11 +97,11 @@ module _ (s : Settings) (picture : graphics s.look ≡ true) (one : gm s.look �
         uncounted_lasts s false true (not_ends s kept) (simp (eq-eqb (width s.look) 16 narrow, kept)) (simp (eq-eqb (width s.look) 16 narrow))
         ∙ ap (λ (v : ℕ). get_or times_x v 0 * get_or times_y v 0) mode
 
-    pub cg1_count : (κs : Lfts 2) (image strip : Lent) (z : Answer) (t : ℕ) (out : List ℕ) → Touches κs s image strip z t out → Done z → t ≡ 1024
+    pub cg1_count : (κs : Lfts 2) (image : Lent) (strip : Room) (z : Answer) (t : ℕ) (out : List ℕ) → Touches κs s image strip z t out → Done z → t ≡ 1024
     cg1_count = count_of 3 three_lines
 
     -- "M1 set and an image of 65,536": then a call is done unless the pin byte is above 63, R1 is 1 or the strip is short
-    pub cg1_done : bits s.word 14 1 ≡ 1 → ltb 63 s.look.pins ≡ false → fast s ≡ false → (κs : Lfts 2) (image strip : Lent) (z : Answer) (t : ℕ) (out : List ℕ)
+    pub cg1_done : bits s.word 14 1 ≡ 1 → ltb 63 s.look.pins ≡ false → fast s ≡ false → (κs : Lfts 2) (image : Lent) (strip : Room) (z : Answer) (t : ℕ) (out : List ℕ)
         → length image.now ≡ 65536 → 3072 ≤ length strip.now → Touches κs s image strip z t out → Done z
     unfolding image_fits suited missing
     cg1_done m1 low slow κs image strip z t out long room p =
@@ -117,10 +117,10 @@ module _ (s : Settings) (picture : graphics s.look ≡ true) (one : gm s.look �
     cleared : clears_b4 s ≡ true
     cleared = ap (λ (v : ℕ). eqb (get_or kept_from v 0) 5) mode
 
-    pub p8_count : s.rule ≡ One → (κs : Lfts 2) (image strip : Lent) (z : Answer) (t : ℕ) (out : List ℕ) → Touches κs s image strip z t out → Done z → t ≡ 16
+    pub p8_count : s.rule ≡ One → (κs : Lfts 2) (image : Lent) (strip : Room) (z : Answer) (t : ℕ) (out : List ℕ) → Touches κs s image strip z t out → Done z → t ≡ 16
     p8_count r =
         let wide = eq-eqb (width s.look) 16 narrow in
         count_of 192 (uncounted_lasts s true true (rw r) (simp (wide, cleared)) (simp wide))
 
-    pub p8_count_2 : s.rule ≡ Two → (κs : Lfts 2) (image strip : Lent) (z : Answer) (t : ℕ) (out : List ℕ) → Touches κs s image strip z t out → Done z → t ≡ 256
+    pub p8_count_2 : s.rule ≡ Two → (κs : Lfts 2) (image : Lent) (strip : Room) (z : Answer) (t : ℕ) (out : List ℕ) → Touches κs s image strip z t out → Done z → t ≡ 256
     p8_count_2 r = count_of 12 (counted_lasts s (rw r (simp (eq-eqb (width s.look) 16 narrow, cleared))) ∙ ap (λ (v : ℕ). get_or times_y v 0) mode)

@@ -58,7 +58,7 @@ use Rattle.sheet.specs.declared.Sheet.{Sheet}
 use Rattle.sheet.proofs.Annotations.{Reads, Line}
 use Rattle.lookup.specs.Lookup.{holder_order}
 use Rattle.lookup.proofs.Examples.{record_sheet, cover_sheet}
-use Rattle.claims.proofs.Calls.{Lent, Listed, Plays, Fetches, Draws, Shows, ReadsBack, ToImage, ToChip, Lays, Encodes, Decodes, Finds}
+use Rattle.claims.proofs.Calls.{Lent, Room, Listed, Plays, Fetches, Draws, Shows, ReadsBack, ToImage, ToChip, Lays, Encodes, Decodes, Finds}
 use Rattle.claims.proofs.Demand1.{play_demand, fetch_demand, draw_demand, show_demand, back_demand, read_demand, to_image_demand, to_chip_demand, lay_demand, encode_demand, decode_demand, holder_demand}
 use Rattle.claims.proofs.Demand2.{Done, value, one_more_write, strip_bytes, frame_pixels, shown_byte, shown_pixel, counted_lines}
 use Rattle.claims.proofs.Chips.{image_byte, chip_byte}
@@ -71,36 +71,36 @@ use Rattle.claims.proofs.Ascents.{rg6, goes_up}
 pub play_accepts : (κs : Lfts 1) (word : ℕ) (writes : Lent) (z : Answer) → Plays κs word writes z → (Done z) ↔ NoneHolds (play_order word writes.now)
 play_accepts κs word writes z p = (play_demand κs word writes z p).done_if
 
-pub fetch_accepts : (κs : Lfts 2) (s : Settings) (image strip : Lent) (z : Answer) (out : List ℕ) → Fetches κs s image strip z out → (Done z) ↔ NoneHolds (fetch_order s (length image.now) (length strip.now))
+pub fetch_accepts : (κs : Lfts 2) (s : Settings) (image : Lent) (strip : Room) (z : Answer) (out : List ℕ) → Fetches κs s image strip z out → (Done z) ↔ NoneHolds (fetch_order s (length image.now) (length strip.now))
 fetch_accepts κs s image strip z out p = (fetch_demand κs s image strip z out p).0.done_if
 
-pub draw_accepts : (κs : Lfts 3) (l : Look) (font strip frame : Lent) (z : Answer) (out : List ℕ) → Draws κs l font strip frame z out → (Done z) ↔ NoneHolds (draw_order l font.now strip.now frame.now)
+pub draw_accepts : (κs : Lfts 3) (l : Look) (font strip : Lent) (frame : Room) (z : Answer) (out : List ℕ) → Draws κs l font strip frame z out → (Done z) ↔ NoneHolds (draw_order l font.now strip.now frame.now)
 draw_accepts κs l font strip frame z out p = (draw_demand κs l font strip frame z out p).0.done_if
 
-pub show_accepts : (κs : Lfts 4) (s : Settings) (image font strip frame : Lent) (z : Answer) (bytes pixels : List ℕ) → Shows κs s image font strip frame z bytes pixels
+pub show_accepts : (κs : Lfts 4) (s : Settings) (image font : Lent) (strip frame : Room) (z : Answer) (bytes pixels : List ℕ) → Shows κs s image font strip frame z bytes pixels
     → (Done z) ↔ NoneHolds (show_order s image.now font.now strip.now frame.now)
 show_accepts κs s image font strip frame z bytes pixels p = (show_demand κs s image font strip frame z bytes pixels p).0.done_if
 
-pub back_accepts : (κs : Lfts 2) (l : Look) (frame strip : Lent) (z : Answer) (out : List ℕ) → ReadsBack κs l frame strip z out → (Done z) ↔ NoneHolds (back_order l frame.now strip.now)
+pub back_accepts : (κs : Lfts 2) (l : Look) (frame : Lent) (strip : Room) (z : Answer) (out : List ℕ) → ReadsBack κs l frame strip z out → (Done z) ↔ NoneHolds (back_order l frame.now strip.now)
 back_accepts κs l frame strip z out p = (back_demand κs l frame strip z out p).0.done_if
 
 pub sheet_accepts : (κs : Lfts 1) (sheet : Lent) (z : Sheet) → Reads κs sheet z → (Done z.answer) ↔ NoneHolds (sheet_order sheet.now)
 sheet_accepts κs sheet z p = (read_demand κs sheet z p).done_if
 
-pub image_accepts : (κs : Lfts 2) (k : ℕ) (chip image : Lent) (z : Answer) (out : List ℕ) → ToImage κs k chip image z out → (Done z) ↔ NoneHolds (chip_order k (length chip.now) (length image.now))
+pub image_accepts : (κs : Lfts 2) (k : ℕ) (chip : Lent) (image : Room) (z : Answer) (out : List ℕ) → ToImage κs k chip image z out → (Done z) ↔ NoneHolds (chip_order k (length chip.now) (length image.now))
 image_accepts κs k chip image z out p = (to_image_demand κs k chip image z out p).0.done_if
 
-pub chip_accepts : (κs : Lfts 2) (k : ℕ) (image chip : Lent) (z : Answer) (out : List ℕ) → ToChip κs k image chip z out → (Done z) ↔ NoneHolds (chip_order k (length image.now) (length chip.now))
+pub chip_accepts : (κs : Lfts 2) (k : ℕ) (image : Lent) (chip : Room) (z : Answer) (out : List ℕ) → ToChip κs k image chip z out → (Done z) ↔ NoneHolds (chip_order k (length image.now) (length chip.now))
 chip_accepts κs k image chip z out p = (to_chip_demand κs k image chip z out p).0.done_if
 
-pub lay_accepts : (κs : Lfts 3) (frame : Lent) (ps : Listed) (width height : ℕ) (canvas : Lent) (z : Answer) (entries : List Placement) (out : List ℕ) → Lays κs frame ps width height canvas z entries out
+pub lay_accepts : (κs : Lfts 3) (frame : Lent) (ps : Listed) (width height : ℕ) (canvas : Room) (z : Answer) (entries : List Placement) (out : List ℕ) → Lays κs frame ps width height canvas z entries out
     → (Done z) ↔ NoneHolds (lay_order (length frame.now) width height (length canvas.now) (length ps.now) (first_outside ps.now))
 lay_accepts κs frame ps width height canvas z entries out p = (lay_demand κs frame ps width height canvas z entries out p).0.done_if
 
-pub encode_accepts : (κs : Lfts 2) (border : ℕ) (frame png : Lent) (z : Answer) (out : List ℕ) → Encodes κs border frame png z out → (Done z) ↔ NoneHolds (encode_order border frame.now png.now)
+pub encode_accepts : (κs : Lfts 2) (border : ℕ) (frame : Lent) (png : Room) (z : Answer) (out : List ℕ) → Encodes κs border frame png z out → (Done z) ↔ NoneHolds (encode_order border frame.now png.now)
 encode_accepts κs border frame png z out p = (encode_demand κs border frame png z out p).0.done_if
 
-pub decode_accepts : (κs : Lfts 2) (png frame : Lent) (z : Answer) (out : List ℕ) → Decodes κs png frame z out → (Done z) ↔ NoneHolds (decode_order png.now frame.now)
+pub decode_accepts : (κs : Lfts 2) (png : Lent) (frame : Room) (z : Answer) (out : List ℕ) → Decodes κs png frame z out → (Done z) ↔ NoneHolds (decode_order png.now frame.now)
 decode_accepts κs png frame z out p = (decode_demand κs png frame z out p).0.done_if
 
 pub holder_accepts : (κs : Lfts 3) (own cover key : Lent) (z : Answer) → Finds κs own cover key z → (Done z) ↔ NoneHolds (holder_order own.now cover.now key.now)
@@ -204,7 +204,7 @@ some_decoded =
     (s, (done_when (done (border_read s)) refl (decode_order s (zeros frame_length)) tt).0 (ap (λ (t : Told). t.number) e))
 
 -- ==== A tool that draws one frame for all. In graphics, strips that differ in a byte give frames that differ,
-pub not_one_frame : (κs κs' : Lfts 3) (l : Look) (font strip strip' frame frame' : Lent) (z z' : Answer) (out out' : List ℕ)
+pub not_one_frame : (κs κs' : Lfts 3) (l : Look) (font strip strip' : Lent) (frame frame' : Room) (z z' : Answer) (out out' : List ℕ)
     → Draws κs l font strip frame z out → Draws κs' l font strip' frame' z' out' → Done z → Done z' → graphics l ≡ true → Bytes strip.now → Bytes strip'.now
     → (i : ℕ) → i < strip_length l → (get_or strip.now i 0 ≡ get_or strip'.now i 0 → ⊥) → out ≡ out' → ⊥
 not_one_frame κs κs' l font strip strip' frame frame' z z' out out' p q d d' g small small' i h differ same =
@@ -212,7 +212,7 @@ not_one_frame κs κs' l font strip strip' frame frame' z z' out out' p q d d' g
     w.3 (sym (frame_pixels κs l font strip frame z out p d w.0 w.1) ∙ ap (λ (x : List ℕ). get_or x w.0 0) same ∙ frame_pixels κs' l font strip' frame' z' out' q d' w.0 w.1)
 
 -- also those that both at once leaves;
-pub not_one_screen : (κs κs' : Lfts 4) (s : Settings) (image image' font strip strip' frame frame' : Lent) (z z' : Answer) (bytes bytes' pixels pixels' : List ℕ)
+pub not_one_screen : (κs κs' : Lfts 4) (s : Settings) (image image' font : Lent) (strip strip' frame frame' : Room) (z z' : Answer) (bytes bytes' pixels pixels' : List ℕ)
     → Shows κs s image font strip frame z bytes pixels → Shows κs' s image' font strip' frame' z' bytes' pixels' → Done z → Done z' → graphics s.look ≡ true → Bytes bytes → Bytes bytes'
     → (i : ℕ) → i < strip_length s.look → (get_or bytes i 0 ≡ get_or bytes' i 0 → ⊥) → pixels ≡ pixels' → ⊥
 not_one_screen κs κs' s image image' font strip strip' frame frame' z z' bytes bytes' pixels pixels' p q d d' g small small' i h differ same =
@@ -228,14 +228,14 @@ first_pixel : (font strip : List ℕ) → (get_or strip 0 0 ≡ 0x80 → picture
 unfolding picture owner dot pixel width one_bit bit lit ink block
 first_pixel font strip = (λ e. rw e, λ e. rw e)
 
-pub not_one_text : (κs κs' : Lfts 3) (font strip strip' frame frame' : Lent) (z z' : Answer) (out out' : List ℕ)
+pub not_one_text : (κs κs' : Lfts 3) (font strip strip' : Lent) (frame frame' : Room) (z z' : Answer) (out out' : List ℕ)
     → Draws κs (look_of 0x00) font strip frame z out → Draws κs' (look_of 0x00) font strip' frame' z' out' → Done z → Done z'
     → get_or strip.now 0 0 ≡ 0x80 → get_or strip'.now 0 0 ≡ 0x8F → out ≡ out' → ⊥
 not_one_text κs κs' font strip strip' frame frame' z z' out out' p q d d' e e' =
     first_differs (frame_pixels κs (look_of 0x00) font strip frame z out p d 0 (omega arith) ∙ (first_pixel font.now strip.now).0 e)
     (frame_pixels κs' (look_of 0x00) font strip' frame' z' out' q d' 0 (omega arith) ∙ (first_pixel font.now strip'.now).1 e')
 
-pub not_one_text_screen : (κs κs' : Lfts 4) (word : ℕ) (rule : Rule) (image image' font strip strip' frame frame' : Lent) (z z' : Answer) (bytes bytes' pixels pixels' : List ℕ)
+pub not_one_text_screen : (κs κs' : Lfts 4) (word : ℕ) (rule : Rule) (image image' font : Lent) (strip strip' frame frame' : Room) (z z' : Answer) (bytes bytes' pixels pixels' : List ℕ)
     → Shows κs (settings_of word 0x00 rule) image font strip frame z bytes pixels → Shows κs' (settings_of word 0x00 rule) image' font strip' frame' z' bytes' pixels' → Done z → Done z'
     → get_or bytes 0 0 ≡ 0x80 → get_or bytes' 0 0 ≡ 0x8F → pixels ≡ pixels' → ⊥
 not_one_text_screen κs κs' word rule image image' font strip strip' frame frame' z z' bytes bytes' pixels pixels' p q d d' e e' =
@@ -257,22 +257,22 @@ not_one_external font strip strip' out out' p q a b e e' =
 idle : {out old : List ℕ} (k : ℕ) {v : ℕ} → get_or out k 0 ≡ v → (v ≡ get_or old k 0 → ⊥) → out ≡ old → ⊥
 idle k e differ same = differ (sym e ∙ ap (λ (x : List ℕ). get_or x k 0) same)
 
-pub not_idle_strip : (κs : Lfts 2) (s : Settings) (image strip : Lent) (z : Answer) (out : List ℕ) → Fetches κs s image strip z out → Done z
+pub not_idle_strip : (κs : Lfts 2) (s : Settings) (image : Lent) (strip : Room) (z : Answer) (out : List ℕ) → Fetches κs s image strip z out → Done z
     → (k : ℕ) → k < strip_length s.look → (fetched_byte s image.now k ≡ get_or strip.now k 0 → ⊥) → out ≡ strip.now → ⊥
 not_idle_strip κs s image strip z out p d k h = idle k (ap (λ (x : List ℕ). get_or x k 0) p.call.1.1 ∙ strip_byte s image.now strip.now (rw p.call.0 at d) k h)
 
-pub not_idle_frame : (κs : Lfts 3) (l : Look) (font strip frame : Lent) (z : Answer) (out : List ℕ) → Draws κs l font strip frame z out → Done z
+pub not_idle_frame : (κs : Lfts 3) (l : Look) (font strip : Lent) (frame : Room) (z : Answer) (out : List ℕ) → Draws κs l font strip frame z out → Done z
     → (k : ℕ) → k < frame_length → (picture l font.now strip.now k ≡ get_or frame.now k 0 → ⊥) → out ≡ frame.now → ⊥
 not_idle_frame κs l font strip frame z out p d k h = idle k (frame_pixels κs l font strip frame z out p d k h)
 
-pub not_idle_back : (κs : Lfts 2) (l : Look) (frame strip : Lent) (z : Answer) (out : List ℕ) → ReadsBack κs l frame strip z out → Done z
+pub not_idle_back : (κs : Lfts 2) (l : Look) (frame : Lent) (strip : Room) (z : Answer) (out : List ℕ) → ReadsBack κs l frame strip z out → Done z
     → (k : ℕ) → k < strip_length l → (read_byte l frame.now k ≡ get_or strip.now k 0 → ⊥) → out ≡ strip.now → ⊥
 not_idle_back κs l frame strip z out p d k h =
     let n = rw p.0 at d in
     idle k (ap (λ (x : List ℕ). get_or x k 0) (p.1 ∙ back_Done l frame.now strip.now n) ∙ written_reads l frame.now strip.now (back_accepted l frame.now strip.now n).0.strip_long k h)
 
 -- both buffers of both at once
-module _ (κs : Lfts 4) (s : Settings) (image font strip frame : Lent) (z : Answer) (bytes pixels : List ℕ) (p : Shows κs s image font strip frame z bytes pixels) (d : Done z) where
+module _ (κs : Lfts 4) (s : Settings) (image font : Lent) (strip frame : Room) (z : Answer) (bytes pixels : List ℕ) (p : Shows κs s image font strip frame z bytes pixels) (d : Done z) where
   pub not_idle_shown_strip : (k : ℕ) → k < strip_length s.look → (fetched_byte s image.now k ≡ get_or strip.now k 0 → ⊥) → bytes ≡ strip.now → ⊥
   not_idle_shown_strip k h = idle k (shown_byte κs s image font strip frame z bytes pixels p d k h)
 
@@ -280,26 +280,26 @@ module _ (κs : Lfts 4) (s : Settings) (image font strip frame : Lent) (z : Answ
   not_idle_shown_frame k h = idle k (shown_pixel κs s image font strip frame z bytes pixels p d k h)
 
 -- both directions of the chips
-pub not_idle_image : (κs : Lfts 2) (k : ℕ) (chip image : Lent) (z : Answer) (out : List ℕ) → ToImage κs k chip image z out → Done z
+pub not_idle_image : (κs : Lfts 2) (k : ℕ) (chip : Lent) (image : Room) (z : Answer) (out : List ℕ) → ToImage κs k chip image z out → Done z
     → (a : ℕ) → a < length chip.now → (get_or chip.now (chip_place k a) 0 ≡ get_or image.now a 0 → ⊥) → out ≡ image.now → ⊥
 not_idle_image κs k chip image z out p d a h = idle a (image_byte κs k chip image z out p d a h)
 
-pub not_idle_chip : (κs : Lfts 2) (k : ℕ) (image chip : Lent) (z : Answer) (out : List ℕ) → ToChip κs k image chip z out → Done z
+pub not_idle_chip : (κs : Lfts 2) (k : ℕ) (image : Lent) (chip : Room) (z : Answer) (out : List ℕ) → ToChip κs k image chip z out → Done z
     → (a : ℕ) → a < length image.now → (get_or image.now a 0 ≡ get_or chip.now (chip_place k a) 0 → ⊥) → out ≡ chip.now → ⊥
 not_idle_chip κs k image chip z out p d a h = idle (chip_place k a) (chip_byte κs k image chip z out p d a h)
 
 -- the canvas
-pub not_idle_canvas : (κs : Lfts 3) (frame : Lent) (ps : Listed) (width height : ℕ) (canvas : Lent) (z : Answer) (entries : List Placement) (out : List ℕ) → Lays κs frame ps width height canvas z entries out → Done z
+pub not_idle_canvas : (κs : Lfts 3) (frame : Lent) (ps : Listed) (width height : ℕ) (canvas : Room) (z : Answer) (entries : List Placement) (out : List ℕ) → Lays κs frame ps width height canvas z entries out → Done z
     → (xs : List Placement) (q : Placement) (ys : List Placement) → ps.now ≡ xs ++ (q ∷ ys) → (k : ℕ) → k < length canvas.now → covers q (k % width) (k / width) ≡ true
     → Each (λ (y : Placement). covers y (k % width) (k / width) ≡ false) ys → (pixel_of frame.now q (k % width) (k / width) ≡ get_or canvas.now k 0 → ⊥) → out ≡ canvas.now → ⊥
 not_idle_canvas κs frame ps width height canvas z entries out p d xs q ys e k h on off = idle k (later_covers κs frame ps width height canvas z entries out p d xs q ys e k h on off)
 
 -- the picture file, and the frame out of it
-pub not_idle_picture : (κs : Lfts 2) (border : ℕ) (frame png : Lent) (z : Answer) (out : List ℕ) → Encodes κs border frame png z out → Done z
+pub not_idle_picture : (κs : Lfts 2) (border : ℕ) (frame : Lent) (png : Room) (z : Answer) (out : List ℕ) → Encodes κs border frame png z out → Done z
     → (k : ℕ) → k < file_length → ((file border (pixels frame.now)).at k ≡ get_or png.now k 0 → ⊥) → out ≡ png.now → ⊥
 not_idle_picture κs border frame png z out p d k h = idle k (picture_byte κs border frame png z out p d k h)
 
-pub not_idle_decoded : (κs : Lfts 2) (png frame : Lent) (z : Answer) (out : List ℕ) → Decodes κs png frame z out → Done z
+pub not_idle_decoded : (κs : Lfts 2) (png : Lent) (frame : Room) (z : Answer) (out : List ℕ) → Decodes κs png frame z out → Done z
     → (k : ℕ) → k < frame_length → (pixel_read png.now k ≡ get_or frame.now k 0 → ⊥) → out ≡ frame.now → ⊥
 not_idle_decoded κs png frame z out p d k h = idle k (pixel_left κs png frame z out p d k h)
 
@@ -314,7 +314,7 @@ module _ (κs κs' : Lfts 1) (word a : ℕ) (writes longer : Lent) (z z' : Answe
   not_first_write_only differ same = differ (ap (λ (w : ℕ). bits w ((a - 0xFFC0) / 2) 1) (sym same) ∙ last_write_felt)
 
 -- The same of lines: for every line n and byte c of it, where two images differ at its place, byte W × n + c of the strips differs.
-pub not_first_line_only : (κs κs' : Lfts 2) (s : Settings) (image image' strip strip' : Lent) (z z' : Answer) (out out' : List ℕ)
+pub not_first_line_only : (κs κs' : Lfts 2) (s : Settings) (image image' : Lent) (strip strip' : Room) (z z' : Answer) (out out' : List ℕ)
     → Fetches κs s image strip z out → Fetches κs' s image' strip' z' out' → Done z → Done z'
     → (n c : ℕ) → n < 192 → c < width s.look → (get_or image.now (place_of s n c) 0 ≡ get_or image'.now (place_of s n c) 0 → ⊥)
     → get_or out (width s.look * n + c) 0 ≡ get_or out' (width s.look * n + c) 0 → ⊥

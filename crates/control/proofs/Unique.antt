@@ -7,7 +7,7 @@ use Rattle.control.proofs.play as play
 use Rattle.control.specs.contracts.play as play_contract
 
 abbrev pub play_op : Operation
-play_op = record { key = play.Symbol.name; T = play_contract.ended; clauses = λ M 𝓤 𝓛. play_contract.clauses 𝓛; Says = play.Reads.Learnt; O = _; seen = λ κs. whole }
+play_op = record { key = play.Symbol.symbol; T = play_contract.ended; clauses = λ M 𝓤 𝓛. play_contract.clauses 𝓛; Says = play.Reads.Learnt; O = _; seen = λ κs. whole }
 
 pub play_fixes : Fixes play_op
 play_fixes = record {

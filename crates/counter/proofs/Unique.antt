@@ -20,7 +20,7 @@ use Rattle.counter.proofs.Counter.clear as clear
 use Rattle.counter.specs.contracts.Counter.clear as clear_contract
 
 abbrev pub line_lasts_op : Operation
-line_lasts_op = record { key = line_lasts.Symbol.name; T = line_lasts_contract.ended; clauses = λ M 𝓤 𝓛. line_lasts_contract.clauses 𝓛; Says = line_lasts.Reads.Learnt; O = _; seen = λ κs. whole }
+line_lasts_op = record { key = line_lasts.Symbol.symbol; T = line_lasts_contract.ended; clauses = λ M 𝓤 𝓛. line_lasts_contract.clauses 𝓛; Says = line_lasts.Reads.Learnt; O = _; seen = λ κs. whole }
 
 pub line_lasts_fixes : Fixes line_lasts_op
 line_lasts_fixes = record {
@@ -30,7 +30,7 @@ line_lasts_fixes = record {
 }
 
 abbrev pub one_stretch_op : Operation
-one_stretch_op = record { key = one_stretch.Symbol.name; T = one_stretch_contract.ended; clauses = λ M 𝓤 𝓛. one_stretch_contract.clauses 𝓛; Says = one_stretch.Reads.Learnt; O = _; seen = λ κs. whole }
+one_stretch_op = record { key = one_stretch.Symbol.symbol; T = one_stretch_contract.ended; clauses = λ M 𝓤 𝓛. one_stretch_contract.clauses 𝓛; Says = one_stretch.Reads.Learnt; O = _; seen = λ κs. whole }
 
 pub one_stretch_fixes : Fixes one_stretch_op
 one_stretch_fixes = record {
@@ -40,7 +40,7 @@ one_stretch_fixes = record {
 }
 
 abbrev pub line_step_op : Operation
-line_step_op = record { key = line_step.Symbol.name; T = line_step_contract.ended; clauses = λ M 𝓤 𝓛. line_step_contract.clauses 𝓛; Says = line_step.Reads.Learnt; O = _; seen = λ κs. whole }
+line_step_op = record { key = line_step.Symbol.symbol; T = line_step_contract.ended; clauses = λ M 𝓤 𝓛. line_step_contract.clauses 𝓛; Says = line_step.Reads.Learnt; O = _; seen = λ κs. whole }
 
 pub line_step_fixes : Fixes line_step_op
 line_step_fixes = record {
@@ -50,7 +50,7 @@ line_step_fixes = record {
 }
 
 abbrev pub row_lasts_op : Operation
-row_lasts_op = record { key = row_lasts.Symbol.name; T = row_lasts_contract.ended; clauses = λ M 𝓤 𝓛. row_lasts_contract.clauses 𝓛; Says = row_lasts.Reads.Learnt; O = _; seen = λ κs. whole }
+row_lasts_op = record { key = row_lasts.Symbol.symbol; T = row_lasts_contract.ended; clauses = λ M 𝓤 𝓛. row_lasts_contract.clauses 𝓛; Says = row_lasts.Reads.Learnt; O = _; seen = λ κs. whole }
 
 pub row_lasts_fixes : Fixes row_lasts_op
 row_lasts_fixes = record {
@@ -60,7 +60,7 @@ row_lasts_fixes = record {
 }
 
 abbrev pub start_op : Operation
-start_op = record { key = start.Symbol.name; T = start_contract.ended; clauses = λ M 𝓤 𝓛. start_contract.clauses 𝓛; Says = start.Reads.Learnt; O = _; seen = λ κs. whole }
+start_op = record { key = start.Symbol.symbol; T = start_contract.ended; clauses = λ M 𝓤 𝓛. start_contract.clauses 𝓛; Says = start.Reads.Learnt; O = _; seen = λ κs. whole }
 
 pub start_fixes : Fixes start_op
 start_fixes = record {
@@ -70,7 +70,7 @@ start_fixes = record {
 }
 
 abbrev pub carry_op : Operation
-carry_op = record { key = carry.Symbol.name; T = carry_contract.ended; clauses = λ M 𝓤 𝓛. carry_contract.clauses 𝓛; Says = carry.Reads.Learnt; O = _; seen = λ κs. whole }
+carry_op = record { key = carry.Symbol.symbol; T = carry_contract.ended; clauses = λ M 𝓤 𝓛. carry_contract.clauses 𝓛; Says = carry.Reads.Learnt; O = _; seen = λ κs. whole }
 
 pub carry_fixes : Fixes carry_op
 carry_fixes = record {
@@ -80,7 +80,7 @@ carry_fixes = record {
 }
 
 abbrev pub advance_op : Operation
-advance_op = record { key = advance.Symbol.name; T = advance_contract.ended; clauses = λ M 𝓤 𝓛. advance_contract.clauses 𝓛; Says = advance.Reads.Learnt; O = _; seen = λ κs. whole }
+advance_op = record { key = advance.Symbol.symbol; T = advance_contract.ended; clauses = λ M 𝓤 𝓛. advance_contract.clauses 𝓛; Says = advance.Reads.Learnt; O = _; seen = λ κs. whole }
 
 pub advance_fixes : Fixes advance_op
 advance_fixes = record {
@@ -90,7 +90,7 @@ advance_fixes = record {
 }
 
 abbrev pub clear_op : Operation
-clear_op = record { key = clear.Symbol.name; T = clear_contract.ended; clauses = λ M 𝓤 𝓛. clear_contract.clauses 𝓛; Says = clear.Reads.Learnt; O = _; seen = λ κs. whole }
+clear_op = record { key = clear.Symbol.symbol; T = clear_contract.ended; clauses = λ M 𝓤 𝓛. clear_contract.clauses 𝓛; Says = clear.Reads.Learnt; O = _; seen = λ κs. whole }
 
 pub clear_fixes : Fixes clear_op
 clear_fixes = record {

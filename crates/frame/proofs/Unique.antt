@@ -7,7 +7,7 @@ use Rattle.frame.proofs.draw as draw
 use Rattle.frame.specs.contracts.draw as draw_contract
 
 abbrev pub draw_op : Operation
-draw_op = record { key = draw.Symbol.name; T = draw_contract.ended; clauses = λ M 𝓤 𝓛. draw_contract.clauses 𝓛; Says = draw.Reads.Learnt; O = _; seen = λ κs. whole }
+draw_op = record { key = draw.Symbol.symbol; T = draw_contract.ended; clauses = λ M 𝓤 𝓛. draw_contract.clauses 𝓛; Says = draw.Reads.Learnt; O = _; seen = λ κs. whole }
 
 pub draw_fixes : Fixes draw_op
 draw_fixes = record {

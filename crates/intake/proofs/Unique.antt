@@ -7,7 +7,7 @@ use Rattle.intake.proofs.settings_of as settings_of
 use Rattle.intake.specs.contracts.settings_of as settings_of_contract
 
 abbrev pub settings_of_op : Operation
-settings_of_op = record { key = settings_of.Symbol.name; T = settings_of_contract.ended; clauses = λ M 𝓤 𝓛. settings_of_contract.clauses 𝓛; Says = settings_of.Reads.Learnt; O = _; seen = λ κs. whole }
+settings_of_op = record { key = settings_of.Symbol.symbol; T = settings_of_contract.ended; clauses = λ M 𝓤 𝓛. settings_of_contract.clauses 𝓛; Says = settings_of.Reads.Learnt; O = _; seen = λ κs. whole }
 
 pub settings_of_fixes : Fixes settings_of_op
 settings_of_fixes = record {

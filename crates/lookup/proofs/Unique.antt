@@ -10,7 +10,7 @@ use Rattle.lookup.proofs.value as value
 use Rattle.lookup.specs.contracts.value as value_contract
 
 abbrev pub holder_op : Operation
-holder_op = record { key = holder.Symbol.name; T = holder_contract.ended; clauses = λ M 𝓤 𝓛. holder_contract.clauses 𝓛; Says = holder.Reads.Learnt; O = _; seen = λ κs. whole }
+holder_op = record { key = holder.Symbol.symbol; T = holder_contract.ended; clauses = λ M 𝓤 𝓛. holder_contract.clauses 𝓛; Says = holder.Reads.Learnt; O = _; seen = λ κs. whole }
 
 pub holder_fixes : Fixes holder_op
 holder_fixes = record {
@@ -20,7 +20,7 @@ holder_fixes = record {
 }
 
 abbrev pub value_op : Operation
-value_op = record { key = value.Symbol.name; T = value_contract.ended; clauses = λ M 𝓤 𝓛. value_contract.clauses 𝓛; Says = value.Reads.Learnt; O = _; seen = λ κs. placed }
+value_op = record { key = value.Symbol.symbol; T = value_contract.ended; clauses = λ M 𝓤 𝓛. value_contract.clauses 𝓛; Says = value.Reads.Learnt; O = _; seen = λ κs. placed }
 
 pub value_fixes : Fixes value_op
 value_fixes = record {

@@ -3,7 +3,8 @@ use Rattle.std.specs.Prelude.{ℕ, ◌≡◌}
 use seplogic.Ra.Ura.{Ura}
 use base.Logic.{SProp, ent, sep, emp, fst∗, snd∗, via, mono_r, id⊢}
 use prog.Memory.{Memory}
-use prog.Routine.{Callee, Routine}
+use mir.Syntax.{Symbol}
+use prog.Routine.{Routine}
 use types.Logic.{Logic}
 use contract.Lifetimes.{Lfts}
 use contract.Monad.{Fun, conj, conj_l, conj_r, fact, fact_i, fact_use}
@@ -15,7 +16,7 @@ use borrow.Fn.World.{World}
 -- An operation: its key, its signature T and its clauses are what the compiler makes of the source; `clauses` are its `requires` and
 -- `ensures` at any model of the logic. Says is what the `ensures` tells in plain words, and `seen` what a caller sees of the result.
 pub record Operation : Type 3 where
-  pub key : Callee
+  pub key : Symbol
   pub T : Ended
   pub clauses : (M : Type 1) (𝓤 : Ura M) (𝓛 : Logic 𝓤) → (Memory → SProp 𝓤) → (Routine → Fun 𝓤) → Clauses 𝓤 T
   pub Says : (κs : Lfts T.signature.lifetimes) → Args T.signature κs → Res T.signature κs → AtExit T κs → Type 0

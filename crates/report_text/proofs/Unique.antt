@@ -8,7 +8,7 @@ use Rattle.report_text.proofs.report_after as report_after
 use Rattle.report_text.specs.contracts.report_after as report_after_contract
 
 abbrev pub report_op : Operation
-report_op = record { key = report.Symbol.name; T = report_contract.ended; clauses = λ M 𝓤 𝓛. report_contract.clauses 𝓛; Says = report.Reads.Learnt; O = _; seen = λ κs. whole }
+report_op = record { key = report.Symbol.symbol; T = report_contract.ended; clauses = λ M 𝓤 𝓛. report_contract.clauses 𝓛; Says = report.Reads.Learnt; O = _; seen = λ κs. whole }
 
 pub report_fixes : Fixes report_op
 report_fixes = record {
@@ -18,7 +18,7 @@ report_fixes = record {
 }
 
 abbrev pub report_after_op : Operation
-report_after_op = record { key = report_after.Symbol.name; T = report_after_contract.ended; clauses = λ M 𝓤 𝓛. report_after_contract.clauses 𝓛; Says = report_after.Reads.Learnt; O = _; seen = λ κs. whole }
+report_after_op = record { key = report_after.Symbol.symbol; T = report_after_contract.ended; clauses = λ M 𝓤 𝓛. report_after_contract.clauses 𝓛; Says = report_after.Reads.Learnt; O = _; seen = λ κs. whole }
 
 pub report_after_fixes : Fixes report_after_op
 report_after_fixes = record {

@@ -8,7 +8,7 @@ use Rattle.scan.proofs.annotation as annotation
 use Rattle.scan.specs.contracts.annotation as annotation_contract
 
 abbrev pub survey_op : Operation
-survey_op = record { key = survey.Symbol.name; T = survey_contract.ended; clauses = λ M 𝓤 𝓛. survey_contract.clauses 𝓛; Says = survey.Reads.Learnt; O = _; seen = λ κs. whole }
+survey_op = record { key = survey.Symbol.symbol; T = survey_contract.ended; clauses = λ M 𝓤 𝓛. survey_contract.clauses 𝓛; Says = survey.Reads.Learnt; O = _; seen = λ κs. whole }
 
 pub survey_fixes : Fixes survey_op
 survey_fixes = record {
@@ -18,7 +18,7 @@ survey_fixes = record {
 }
 
 abbrev pub annotation_op : Operation
-annotation_op = record { key = annotation.Symbol.name; T = annotation_contract.ended; clauses = λ M 𝓤 𝓛. annotation_contract.clauses 𝓛; Says = annotation.Reads.Learnt; O = _; seen = λ κs. whole }
+annotation_op = record { key = annotation.Symbol.symbol; T = annotation_contract.ended; clauses = λ M 𝓤 𝓛. annotation_contract.clauses 𝓛; Says = annotation.Reads.Learnt; O = _; seen = λ κs. whole }
 
 pub annotation_fixes : Fixes annotation_op
 annotation_fixes = record {

@@ -7,7 +7,7 @@ use Rattle.screen.proofs.show as show
 use Rattle.screen.specs.contracts.show as show_contract
 
 abbrev pub show_op : Operation
-show_op = record { key = show.Symbol.name; T = show_contract.ended; clauses = λ M 𝓤 𝓛. show_contract.clauses 𝓛; Says = show.Reads.Learnt; O = _; seen = λ κs. whole }
+show_op = record { key = show.Symbol.symbol; T = show_contract.ended; clauses = λ M 𝓤 𝓛. show_contract.clauses 𝓛; Says = show.Reads.Learnt; O = _; seen = λ κs. whole }
 
 pub show_fixes : Fixes show_op
 show_fixes = record {

@@ -45,7 +45,7 @@ use Rattle.settings.proofs.short_frame as short_frame
 use Rattle.settings.specs.contracts.short_frame as short_frame_contract
 
 abbrev pub video_mode_op : Operation
-video_mode_op = record { key = video_mode.Symbol.name; T = video_mode_contract.ended; clauses = λ M 𝓤 𝓛. video_mode_contract.clauses 𝓛; Says = video_mode.Reads.Learnt; O = _; seen = λ κs. whole }
+video_mode_op = record { key = video_mode.Symbol.symbol; T = video_mode_contract.ended; clauses = λ M 𝓤 𝓛. video_mode_contract.clauses 𝓛; Says = video_mode.Reads.Learnt; O = _; seen = λ κs. whole }
 
 pub video_mode_fixes : Fixes video_mode_op
 video_mode_fixes = record {
@@ -55,7 +55,7 @@ video_mode_fixes = record {
 }
 
 abbrev pub offset_op : Operation
-offset_op = record { key = offset.Symbol.name; T = offset_contract.ended; clauses = λ M 𝓤 𝓛. offset_contract.clauses 𝓛; Says = offset.Reads.Learnt; O = _; seen = λ κs. whole }
+offset_op = record { key = offset.Symbol.symbol; T = offset_contract.ended; clauses = λ M 𝓤 𝓛. offset_contract.clauses 𝓛; Says = offset.Reads.Learnt; O = _; seen = λ κs. whole }
 
 pub offset_fixes : Fixes offset_op
 offset_fixes = record {
@@ -65,7 +65,7 @@ offset_fixes = record {
 }
 
 abbrev pub bank_bit_op : Operation
-bank_bit_op = record { key = bank_bit.Symbol.name; T = bank_bit_contract.ended; clauses = λ M 𝓤 𝓛. bank_bit_contract.clauses 𝓛; Says = bank_bit.Reads.Learnt; O = _; seen = λ κs. whole }
+bank_bit_op = record { key = bank_bit.Symbol.symbol; T = bank_bit_contract.ended; clauses = λ M 𝓤 𝓛. bank_bit_contract.clauses 𝓛; Says = bank_bit.Reads.Learnt; O = _; seen = λ κs. whole }
 
 pub bank_bit_fixes : Fixes bank_bit_op
 bank_bit_fixes = record {
@@ -75,7 +75,7 @@ bank_bit_fixes = record {
 }
 
 abbrev pub graphics_op : Operation
-graphics_op = record { key = graphics.Symbol.name; T = graphics_contract.ended; clauses = λ M 𝓤 𝓛. graphics_contract.clauses 𝓛; Says = graphics.Reads.Learnt; O = _; seen = λ κs. whole }
+graphics_op = record { key = graphics.Symbol.symbol; T = graphics_contract.ended; clauses = λ M 𝓤 𝓛. graphics_contract.clauses 𝓛; Says = graphics.Reads.Learnt; O = _; seen = λ κs. whole }
 
 pub graphics_fixes : Fixes graphics_op
 graphics_fixes = record {
@@ -85,7 +85,7 @@ graphics_fixes = record {
 }
 
 abbrev pub external_op : Operation
-external_op = record { key = external.Symbol.name; T = external_contract.ended; clauses = λ M 𝓤 𝓛. external_contract.clauses 𝓛; Says = external.Reads.Learnt; O = _; seen = λ κs. whole }
+external_op = record { key = external.Symbol.symbol; T = external_contract.ended; clauses = λ M 𝓤 𝓛. external_contract.clauses 𝓛; Says = external.Reads.Learnt; O = _; seen = λ κs. whole }
 
 pub external_fixes : Fixes external_op
 external_fixes = record {
@@ -95,7 +95,7 @@ external_fixes = record {
 }
 
 abbrev pub gm_op : Operation
-gm_op = record { key = gm.Symbol.name; T = gm_contract.ended; clauses = λ M 𝓤 𝓛. gm_contract.clauses 𝓛; Says = gm.Reads.Learnt; O = _; seen = λ κs. whole }
+gm_op = record { key = gm.Symbol.symbol; T = gm_contract.ended; clauses = λ M 𝓤 𝓛. gm_contract.clauses 𝓛; Says = gm.Reads.Learnt; O = _; seen = λ κs. whole }
 
 pub gm_fixes : Fixes gm_op
 gm_fixes = record {
@@ -105,7 +105,7 @@ gm_fixes = record {
 }
 
 abbrev pub css_op : Operation
-css_op = record { key = css.Symbol.name; T = css_contract.ended; clauses = λ M 𝓤 𝓛. css_contract.clauses 𝓛; Says = css.Reads.Learnt; O = _; seen = λ κs. whole }
+css_op = record { key = css.Symbol.symbol; T = css_contract.ended; clauses = λ M 𝓤 𝓛. css_contract.clauses 𝓛; Says = css.Reads.Learnt; O = _; seen = λ κs. whole }
 
 pub css_fixes : Fixes css_op
 css_fixes = record {
@@ -115,7 +115,7 @@ css_fixes = record {
 }
 
 abbrev pub width_op : Operation
-width_op = record { key = width.Symbol.name; T = width_contract.ended; clauses = λ M 𝓤 𝓛. width_contract.clauses 𝓛; Says = width.Reads.Learnt; O = _; seen = λ κs. whole }
+width_op = record { key = width.Symbol.symbol; T = width_contract.ended; clauses = λ M 𝓤 𝓛. width_contract.clauses 𝓛; Says = width.Reads.Learnt; O = _; seen = λ κs. whole }
 
 pub width_fixes : Fixes width_op
 width_fixes = record {
@@ -125,7 +125,7 @@ width_fixes = record {
 }
 
 abbrev pub strip_length_op : Operation
-strip_length_op = record { key = strip_length.Symbol.name; T = strip_length_contract.ended; clauses = λ M 𝓤 𝓛. strip_length_contract.clauses 𝓛; Says = strip_length.Reads.Learnt; O = _; seen = λ κs. whole }
+strip_length_op = record { key = strip_length.Symbol.symbol; T = strip_length_contract.ended; clauses = λ M 𝓤 𝓛. strip_length_contract.clauses 𝓛; Says = strip_length.Reads.Learnt; O = _; seen = λ κs. whole }
 
 pub strip_length_fixes : Fixes strip_length_op
 strip_length_fixes = record {
@@ -135,7 +135,7 @@ strip_length_fixes = record {
 }
 
 abbrev pub dots_op : Operation
-dots_op = record { key = dots.Symbol.name; T = dots_contract.ended; clauses = λ M 𝓤 𝓛. dots_contract.clauses 𝓛; Says = dots.Reads.Learnt; O = _; seen = λ κs. whole }
+dots_op = record { key = dots.Symbol.symbol; T = dots_contract.ended; clauses = λ M 𝓤 𝓛. dots_contract.clauses 𝓛; Says = dots.Reads.Learnt; O = _; seen = λ κs. whole }
 
 pub dots_fixes : Fixes dots_op
 dots_fixes = record {
@@ -145,7 +145,7 @@ dots_fixes = record {
 }
 
 abbrev pub border_op : Operation
-border_op = record { key = border.Symbol.name; T = border_contract.ended; clauses = λ M 𝓤 𝓛. border_contract.clauses 𝓛; Says = border.Reads.Learnt; O = _; seen = λ κs. whole }
+border_op = record { key = border.Symbol.symbol; T = border_contract.ended; clauses = λ M 𝓤 𝓛. border_contract.clauses 𝓛; Says = border.Reads.Learnt; O = _; seen = λ κs. whole }
 
 pub border_fixes : Fixes border_op
 border_fixes = record {
@@ -155,7 +155,7 @@ border_fixes = record {
 }
 
 abbrev pub mode_name_op : Operation
-mode_name_op = record { key = mode_name.Symbol.name; T = mode_name_contract.ended; clauses = λ M 𝓤 𝓛. mode_name_contract.clauses 𝓛; Says = mode_name.Reads.Learnt; O = _; seen = λ κs. whole }
+mode_name_op = record { key = mode_name.Symbol.symbol; T = mode_name_contract.ended; clauses = λ M 𝓤 𝓛. mode_name_contract.clauses 𝓛; Says = mode_name.Reads.Learnt; O = _; seen = λ κs. whole }
 
 pub mode_name_fixes : Fixes mode_name_op
 mode_name_fixes = record {
@@ -165,7 +165,7 @@ mode_name_fixes = record {
 }
 
 abbrev pub pins_above_op : Operation
-pins_above_op = record { key = pins_above.Symbol.name; T = pins_above_contract.ended; clauses = λ M 𝓤 𝓛. pins_above_contract.clauses 𝓛; Says = pins_above.Reads.Learnt; O = _; seen = λ κs. whole }
+pins_above_op = record { key = pins_above.Symbol.symbol; T = pins_above_contract.ended; clauses = λ M 𝓤 𝓛. pins_above_contract.clauses 𝓛; Says = pins_above.Reads.Learnt; O = _; seen = λ κs. whole }
 
 pub pins_above_fixes : Fixes pins_above_op
 pins_above_fixes = record {
@@ -175,7 +175,7 @@ pins_above_fixes = record {
 }
 
 abbrev pub text_back_op : Operation
-text_back_op = record { key = text_back.Symbol.name; T = text_back_contract.ended; clauses = λ M 𝓤 𝓛. text_back_contract.clauses 𝓛; Says = text_back.Reads.Learnt; O = _; seen = λ κs. whole }
+text_back_op = record { key = text_back.Symbol.symbol; T = text_back_contract.ended; clauses = λ M 𝓤 𝓛. text_back_contract.clauses 𝓛; Says = text_back.Reads.Learnt; O = _; seen = λ κs. whole }
 
 pub text_back_fixes : Fixes text_back_op
 text_back_fixes = record {
@@ -185,7 +185,7 @@ text_back_fixes = record {
 }
 
 abbrev pub fast_rate_op : Operation
-fast_rate_op = record { key = fast_rate.Symbol.name; T = fast_rate_contract.ended; clauses = λ M 𝓤 𝓛. fast_rate_contract.clauses 𝓛; Says = fast_rate.Reads.Learnt; O = _; seen = λ κs. whole }
+fast_rate_op = record { key = fast_rate.Symbol.symbol; T = fast_rate_contract.ended; clauses = λ M 𝓤 𝓛. fast_rate_contract.clauses 𝓛; Says = fast_rate.Reads.Learnt; O = _; seen = λ κs. whole }
 
 pub fast_rate_fixes : Fixes fast_rate_op
 fast_rate_fixes = record {
@@ -195,7 +195,7 @@ fast_rate_fixes = record {
 }
 
 abbrev pub image_length_op : Operation
-image_length_op = record { key = image_length.Symbol.name; T = image_length_contract.ended; clauses = λ M 𝓤 𝓛. image_length_contract.clauses 𝓛; Says = image_length.Reads.Learnt; O = _; seen = λ κs. whole }
+image_length_op = record { key = image_length.Symbol.symbol; T = image_length_contract.ended; clauses = λ M 𝓤 𝓛. image_length_contract.clauses 𝓛; Says = image_length.Reads.Learnt; O = _; seen = λ κs. whole }
 
 pub image_length_fixes : Fixes image_length_op
 image_length_fixes = record {
@@ -205,7 +205,7 @@ image_length_fixes = record {
 }
 
 abbrev pub not_suited_op : Operation
-not_suited_op = record { key = not_suited.Symbol.name; T = not_suited_contract.ended; clauses = λ M 𝓤 𝓛. not_suited_contract.clauses 𝓛; Says = not_suited.Reads.Learnt; O = _; seen = λ κs. whole }
+not_suited_op = record { key = not_suited.Symbol.symbol; T = not_suited_contract.ended; clauses = λ M 𝓤 𝓛. not_suited_contract.clauses 𝓛; Says = not_suited.Reads.Learnt; O = _; seen = λ κs. whole }
 
 pub not_suited_fixes : Fixes not_suited_op
 not_suited_fixes = record {
@@ -215,7 +215,7 @@ not_suited_fixes = record {
 }
 
 abbrev pub font_length_op : Operation
-font_length_op = record { key = font_length.Symbol.name; T = font_length_contract.ended; clauses = λ M 𝓤 𝓛. font_length_contract.clauses 𝓛; Says = font_length.Reads.Learnt; O = _; seen = λ κs. whole }
+font_length_op = record { key = font_length.Symbol.symbol; T = font_length_contract.ended; clauses = λ M 𝓤 𝓛. font_length_contract.clauses 𝓛; Says = font_length.Reads.Learnt; O = _; seen = λ κs. whole }
 
 pub font_length_fixes : Fixes font_length_op
 font_length_fixes = record {
@@ -225,7 +225,7 @@ font_length_fixes = record {
 }
 
 abbrev pub short_strip_op : Operation
-short_strip_op = record { key = short_strip.Symbol.name; T = short_strip_contract.ended; clauses = λ M 𝓤 𝓛. short_strip_contract.clauses 𝓛; Says = short_strip.Reads.Learnt; O = _; seen = λ κs. whole }
+short_strip_op = record { key = short_strip.Symbol.symbol; T = short_strip_contract.ended; clauses = λ M 𝓤 𝓛. short_strip_contract.clauses 𝓛; Says = short_strip.Reads.Learnt; O = _; seen = λ κs. whole }
 
 pub short_strip_fixes : Fixes short_strip_op
 short_strip_fixes = record {
@@ -235,7 +235,7 @@ short_strip_fixes = record {
 }
 
 abbrev pub short_frame_op : Operation
-short_frame_op = record { key = short_frame.Symbol.name; T = short_frame_contract.ended; clauses = λ M 𝓤 𝓛. short_frame_contract.clauses 𝓛; Says = short_frame.Reads.Learnt; O = _; seen = λ κs. whole }
+short_frame_op = record { key = short_frame.Symbol.symbol; T = short_frame_contract.ended; clauses = λ M 𝓤 𝓛. short_frame_contract.clauses 𝓛; Says = short_frame.Reads.Learnt; O = _; seen = λ κs. whole }
 
 pub short_frame_fixes : Fixes short_frame_op
 short_frame_fixes = record {

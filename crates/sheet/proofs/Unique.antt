@@ -14,7 +14,7 @@ use Rattle.sheet.proofs.tail as tail
 use Rattle.sheet.specs.contracts.tail as tail_contract
 
 abbrev pub read_op : Operation
-read_op = record { key = read.Symbol.name; T = read_contract.ended; clauses = λ M 𝓤 𝓛. read_contract.clauses 𝓛; Says = read.Reads.Learnt; O = _; seen = λ κs. whole }
+read_op = record { key = read.Symbol.symbol; T = read_contract.ended; clauses = λ M 𝓤 𝓛. read_contract.clauses 𝓛; Says = read.Reads.Learnt; O = _; seen = λ κs. whole }
 
 pub read_fixes : Fixes read_op
 read_fixes = record {
@@ -34,7 +34,7 @@ read_fixes = record {
 }
 
 abbrev pub deed_op : Operation
-deed_op = record { key = deed.Symbol.name; T = deed_contract.ended; clauses = λ M 𝓤 𝓛. deed_contract.clauses 𝓛; Says = deed.Reads.Learnt; O = _; seen = λ κs. placed }
+deed_op = record { key = deed.Symbol.symbol; T = deed_contract.ended; clauses = λ M 𝓤 𝓛. deed_contract.clauses 𝓛; Says = deed.Reads.Learnt; O = _; seen = λ κs. placed }
 
 pub deed_fixes : Fixes deed_op
 deed_fixes = record {
@@ -44,7 +44,7 @@ deed_fixes = record {
 }
 
 abbrev pub annotation_op : Operation
-annotation_op = record { key = annotation.Symbol.name; T = annotation_contract.ended; clauses = λ M 𝓤 𝓛. annotation_contract.clauses 𝓛; Says = annotation.Reads.Learnt; O = _; seen = λ κs. placed }
+annotation_op = record { key = annotation.Symbol.symbol; T = annotation_contract.ended; clauses = λ M 𝓤 𝓛. annotation_contract.clauses 𝓛; Says = annotation.Reads.Learnt; O = _; seen = λ κs. placed }
 
 pub annotation_fixes : Fixes annotation_op
 annotation_fixes = record {
@@ -54,7 +54,7 @@ annotation_fixes = record {
 }
 
 abbrev pub tail_op : Operation
-tail_op = record { key = tail.Symbol.name; T = tail_contract.ended; clauses = λ M 𝓤 𝓛. tail_contract.clauses 𝓛; Says = tail.Reads.Learnt; O = _; seen = λ κs. placed }
+tail_op = record { key = tail.Symbol.symbol; T = tail_contract.ended; clauses = λ M 𝓤 𝓛. tail_contract.clauses 𝓛; Says = tail.Reads.Learnt; O = _; seen = λ κs. placed }
 
 pub tail_fixes : Fixes tail_op
 tail_fixes = record {

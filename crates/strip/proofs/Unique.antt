@@ -10,7 +10,7 @@ use Rattle.strip.proofs.fetch as fetch
 use Rattle.strip.specs.contracts.fetch as fetch_contract
 
 abbrev pub not_fitted_op : Operation
-not_fitted_op = record { key = not_fitted.Symbol.name; T = not_fitted_contract.ended; clauses = λ M 𝓤 𝓛. not_fitted_contract.clauses 𝓛; Says = not_fitted.Reads.Learnt; O = _; seen = λ κs. whole }
+not_fitted_op = record { key = not_fitted.Symbol.symbol; T = not_fitted_contract.ended; clauses = λ M 𝓤 𝓛. not_fitted_contract.clauses 𝓛; Says = not_fitted.Reads.Learnt; O = _; seen = λ κs. whole }
 
 pub not_fitted_fixes : Fixes not_fitted_op
 not_fitted_fixes = record {
@@ -20,7 +20,7 @@ not_fitted_fixes = record {
 }
 
 abbrev pub fetch_op : Operation
-fetch_op = record { key = fetch.Symbol.name; T = fetch_contract.ended; clauses = λ M 𝓤 𝓛. fetch_contract.clauses 𝓛; Says = fetch.Reads.Learnt; O = _; seen = λ κs. whole }
+fetch_op = record { key = fetch.Symbol.symbol; T = fetch_contract.ended; clauses = λ M 𝓤 𝓛. fetch_contract.clauses 𝓛; Says = fetch.Reads.Learnt; O = _; seen = λ κs. whole }
 
 pub fetch_fixes : Fixes fetch_op
 fetch_fixes = record {

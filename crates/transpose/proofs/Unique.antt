@@ -9,7 +9,7 @@ use Rattle.transpose.proofs.to_chip as to_chip
 use Rattle.transpose.specs.contracts.to_chip as to_chip_contract
 
 abbrev pub to_image_op : Operation
-to_image_op = record { key = to_image.Symbol.name; T = to_image_contract.ended; clauses = λ M 𝓤 𝓛. to_image_contract.clauses 𝓛; Says = to_image.Reads.Learnt; O = _; seen = λ κs. whole }
+to_image_op = record { key = to_image.Symbol.symbol; T = to_image_contract.ended; clauses = λ M 𝓤 𝓛. to_image_contract.clauses 𝓛; Says = to_image.Reads.Learnt; O = _; seen = λ κs. whole }
 
 pub to_image_fixes : Fixes to_image_op
 to_image_fixes = record {
@@ -19,7 +19,7 @@ to_image_fixes = record {
 }
 
 abbrev pub to_chip_op : Operation
-to_chip_op = record { key = to_chip.Symbol.name; T = to_chip_contract.ended; clauses = λ M 𝓤 𝓛. to_chip_contract.clauses 𝓛; Says = to_chip.Reads.Learnt; O = _; seen = λ κs. whole }
+to_chip_op = record { key = to_chip.Symbol.symbol; T = to_chip_contract.ended; clauses = λ M 𝓤 𝓛. to_chip_contract.clauses 𝓛; Says = to_chip.Reads.Learnt; O = _; seen = λ κs. whole }
 
 pub to_chip_fixes : Fixes to_chip_op
 to_chip_fixes = record {

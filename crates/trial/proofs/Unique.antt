@@ -39,7 +39,7 @@ use Rattle.trial.proofs.quoted as quoted
 use Rattle.trial.specs.contracts.quoted as quoted_contract
 
 abbrev pub look_of_op : Operation
-look_of_op = record { key = look_of.Symbol.name; T = look_of_contract.ended; clauses = λ M 𝓤 𝓛. look_of_contract.clauses 𝓛; Says = look_of.Reads.Learnt; O = _; seen = λ κs. whole }
+look_of_op = record { key = look_of.Symbol.symbol; T = look_of_contract.ended; clauses = λ M 𝓤 𝓛. look_of_contract.clauses 𝓛; Says = look_of.Reads.Learnt; O = _; seen = λ κs. whole }
 
 pub look_of_fixes : Fixes look_of_op
 look_of_fixes = record {
@@ -49,7 +49,7 @@ look_of_fixes = record {
 }
 
 abbrev pub settings_of_op : Operation
-settings_of_op = record { key = settings_of.Symbol.name; T = settings_of_contract.ended; clauses = λ M 𝓤 𝓛. settings_of_contract.clauses 𝓛; Says = settings_of.Reads.Learnt; O = _; seen = λ κs. whole }
+settings_of_op = record { key = settings_of.Symbol.symbol; T = settings_of_contract.ended; clauses = λ M 𝓤 𝓛. settings_of_contract.clauses 𝓛; Says = settings_of.Reads.Learnt; O = _; seen = λ κs. whole }
 
 pub settings_of_fixes : Fixes settings_of_op
 settings_of_fixes = record {
@@ -66,7 +66,7 @@ settings_of_fixes = record {
 }
 
 abbrev pub least_op : Operation
-least_op = record { key = least.Symbol.name; T = least_contract.ended; clauses = λ M 𝓤 𝓛. least_contract.clauses 𝓛; Says = least.Reads.Learnt; O = _; seen = λ κs. whole }
+least_op = record { key = least.Symbol.symbol; T = least_contract.ended; clauses = λ M 𝓤 𝓛. least_contract.clauses 𝓛; Says = least.Reads.Learnt; O = _; seen = λ κs. whole }
 
 pub least_fixes : Fixes least_op
 least_fixes = record {
@@ -76,7 +76,7 @@ least_fixes = record {
 }
 
 abbrev pub cut_op : Operation
-cut_op = record { key = cut.Symbol.name; T = cut_contract.ended; clauses = λ M 𝓤 𝓛. cut_contract.clauses 𝓛; Says = cut.Reads.Learnt; O = _; seen = λ κs. placed }
+cut_op = record { key = cut.Symbol.symbol; T = cut_contract.ended; clauses = λ M 𝓤 𝓛. cut_contract.clauses 𝓛; Says = cut.Reads.Learnt; O = _; seen = λ κs. placed }
 
 pub cut_fixes : Fixes cut_op
 cut_fixes = record {
@@ -86,7 +86,7 @@ cut_fixes = record {
 }
 
 abbrev pub byte_at_op : Operation
-byte_at_op = record { key = byte_at.Symbol.name; T = byte_at_contract.ended; clauses = λ M 𝓤 𝓛. byte_at_contract.clauses 𝓛; Says = byte_at.Reads.Learnt; O = _; seen = λ κs. whole }
+byte_at_op = record { key = byte_at.Symbol.symbol; T = byte_at_contract.ended; clauses = λ M 𝓤 𝓛. byte_at_contract.clauses 𝓛; Says = byte_at.Reads.Learnt; O = _; seen = λ κs. whole }
 
 pub byte_at_fixes : Fixes byte_at_op
 byte_at_fixes = record {
@@ -96,7 +96,7 @@ byte_at_fixes = record {
 }
 
 abbrev pub lay_op : Operation
-lay_op = record { key = lay.Symbol.name; T = lay_contract.ended; clauses = λ M 𝓤 𝓛. lay_contract.clauses 𝓛; Says = lay.Reads.Learnt; O = _; seen = λ κs. whole }
+lay_op = record { key = lay.Symbol.symbol; T = lay_contract.ended; clauses = λ M 𝓤 𝓛. lay_contract.clauses 𝓛; Says = lay.Reads.Learnt; O = _; seen = λ κs. whole }
 
 pub lay_fixes : Fixes lay_op
 lay_fixes = record {
@@ -106,7 +106,7 @@ lay_fixes = record {
 }
 
 abbrev pub mark_op : Operation
-mark_op = record { key = mark.Symbol.name; T = mark_contract.ended; clauses = λ M 𝓤 𝓛. mark_contract.clauses 𝓛; Says = mark.Reads.Learnt; O = _; seen = λ κs. whole }
+mark_op = record { key = mark.Symbol.symbol; T = mark_contract.ended; clauses = λ M 𝓤 𝓛. mark_contract.clauses 𝓛; Says = mark.Reads.Learnt; O = _; seen = λ κs. whole }
 
 pub mark_fixes : Fixes mark_op
 mark_fixes = record {
@@ -116,7 +116,7 @@ mark_fixes = record {
 }
 
 abbrev pub unchanged_from_op : Operation
-unchanged_from_op = record { key = unchanged_from.Symbol.name; T = unchanged_from_contract.ended; clauses = λ M 𝓤 𝓛. unchanged_from_contract.clauses 𝓛; Says = unchanged_from.Reads.Learnt; O = _; seen = λ κs. whole }
+unchanged_from_op = record { key = unchanged_from.Symbol.symbol; T = unchanged_from_contract.ended; clauses = λ M 𝓤 𝓛. unchanged_from_contract.clauses 𝓛; Says = unchanged_from.Reads.Learnt; O = _; seen = λ κs. whole }
 
 pub unchanged_from_fixes : Fixes unchanged_from_op
 unchanged_from_fixes = record {
@@ -126,7 +126,7 @@ unchanged_from_fixes = record {
 }
 
 abbrev pub sum_op : Operation
-sum_op = record { key = sum.Symbol.name; T = sum_contract.ended; clauses = λ M 𝓤 𝓛. sum_contract.clauses 𝓛; Says = sum.Reads.Learnt; O = _; seen = λ κs. whole }
+sum_op = record { key = sum.Symbol.symbol; T = sum_contract.ended; clauses = λ M 𝓤 𝓛. sum_contract.clauses 𝓛; Says = sum.Reads.Learnt; O = _; seen = λ κs. whole }
 
 pub sum_fixes : Fixes sum_op
 sum_fixes = record {
@@ -136,7 +136,7 @@ sum_fixes = record {
 }
 
 abbrev pub say_op : Operation
-say_op = record { key = say.Symbol.name; T = say_contract.ended; clauses = λ M 𝓤 𝓛. say_contract.clauses 𝓛; Says = say.Reads.Learnt; O = _; seen = λ κs. whole }
+say_op = record { key = say.Symbol.symbol; T = say_contract.ended; clauses = λ M 𝓤 𝓛. say_contract.clauses 𝓛; Says = say.Reads.Learnt; O = _; seen = λ κs. whole }
 
 pub say_fixes : Fixes say_op
 say_fixes = record {
@@ -146,7 +146,7 @@ say_fixes = record {
 }
 
 abbrev pub form_op : Operation
-form_op = record { key = form.Symbol.name; T = form_contract.ended; clauses = λ M 𝓤 𝓛. form_contract.clauses 𝓛; Says = form.Reads.Learnt; O = _; seen = λ κs. whole }
+form_op = record { key = form.Symbol.symbol; T = form_contract.ended; clauses = λ M 𝓤 𝓛. form_contract.clauses 𝓛; Says = form.Reads.Learnt; O = _; seen = λ κs. whole }
 
 pub form_fixes : Fixes form_op
 form_fixes = record {
@@ -156,7 +156,7 @@ form_fixes = record {
 }
 
 abbrev pub one_op : Operation
-one_op = record { key = one.Symbol.name; T = one_contract.ended; clauses = λ M 𝓤 𝓛. one_contract.clauses 𝓛; Says = one.Reads.Learnt; O = _; seen = λ κs. whole }
+one_op = record { key = one.Symbol.symbol; T = one_contract.ended; clauses = λ M 𝓤 𝓛. one_contract.clauses 𝓛; Says = one.Reads.Learnt; O = _; seen = λ κs. whole }
 
 pub one_fixes : Fixes one_op
 one_fixes = record {
@@ -166,7 +166,7 @@ one_fixes = record {
 }
 
 abbrev pub figure_name_op : Operation
-figure_name_op = record { key = figure_name.Symbol.name; T = figure_name_contract.ended; clauses = λ M 𝓤 𝓛. figure_name_contract.clauses 𝓛; Says = figure_name.Reads.Learnt; O = _; seen = λ κs. whole }
+figure_name_op = record { key = figure_name.Symbol.symbol; T = figure_name_contract.ended; clauses = λ M 𝓤 𝓛. figure_name_contract.clauses 𝓛; Says = figure_name.Reads.Learnt; O = _; seen = λ κs. whole }
 
 pub figure_name_fixes : Fixes figure_name_op
 figure_name_fixes = record {
@@ -176,7 +176,7 @@ figure_name_fixes = record {
 }
 
 abbrev pub rule_name_op : Operation
-rule_name_op = record { key = rule_name.Symbol.name; T = rule_name_contract.ended; clauses = λ M 𝓤 𝓛. rule_name_contract.clauses 𝓛; Says = rule_name.Reads.Learnt; O = _; seen = λ κs. whole }
+rule_name_op = record { key = rule_name.Symbol.symbol; T = rule_name_contract.ended; clauses = λ M 𝓤 𝓛. rule_name_contract.clauses 𝓛; Says = rule_name.Reads.Learnt; O = _; seen = λ κs. whole }
 
 pub rule_name_fixes : Fixes rule_name_op
 rule_name_fixes = record {
@@ -186,7 +186,7 @@ rule_name_fixes = record {
 }
 
 abbrev pub number_and_place_op : Operation
-number_and_place_op = record { key = number_and_place.Symbol.name; T = number_and_place_contract.ended; clauses = λ M 𝓤 𝓛. number_and_place_contract.clauses 𝓛; Says = number_and_place.Reads.Learnt; O = _; seen = λ κs. whole }
+number_and_place_op = record { key = number_and_place.Symbol.symbol; T = number_and_place_contract.ended; clauses = λ M 𝓤 𝓛. number_and_place_contract.clauses 𝓛; Says = number_and_place.Reads.Learnt; O = _; seen = λ κs. whole }
 
 pub number_and_place_fixes : Fixes number_and_place_op
 number_and_place_fixes = record {
@@ -196,7 +196,7 @@ number_and_place_fixes = record {
 }
 
 abbrev pub answered_op : Operation
-answered_op = record { key = answered.Symbol.name; T = answered_contract.ended; clauses = λ M 𝓤 𝓛. answered_contract.clauses 𝓛; Says = answered.Reads.Learnt; O = _; seen = λ κs. whole }
+answered_op = record { key = answered.Symbol.symbol; T = answered_contract.ended; clauses = λ M 𝓤 𝓛. answered_contract.clauses 𝓛; Says = answered.Reads.Learnt; O = _; seen = λ κs. whole }
 
 pub answered_fixes : Fixes answered_op
 answered_fixes = record {
@@ -206,7 +206,7 @@ answered_fixes = record {
 }
 
 abbrev pub quoted_op : Operation
-quoted_op = record { key = quoted.Symbol.name; T = quoted_contract.ended; clauses = λ M 𝓤 𝓛. quoted_contract.clauses 𝓛; Says = quoted.Reads.Learnt; O = _; seen = λ κs. whole }
+quoted_op = record { key = quoted.Symbol.symbol; T = quoted_contract.ended; clauses = λ M 𝓤 𝓛. quoted_contract.clauses 𝓛; Says = quoted.Reads.Learnt; O = _; seen = λ κs. whole }
 
 pub quoted_fixes : Fixes quoted_op
 quoted_fixes = record {

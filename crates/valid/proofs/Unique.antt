@@ -7,7 +7,7 @@ use Rattle.valid.proofs.not_valid as not_valid
 use Rattle.valid.specs.contracts.not_valid as not_valid_contract
 
 abbrev pub not_valid_op : Operation
-not_valid_op = record { key = not_valid.Symbol.name; T = not_valid_contract.ended; clauses = λ M 𝓤 𝓛. not_valid_contract.clauses 𝓛; Says = not_valid.Reads.Learnt; O = _; seen = λ κs. whole }
+not_valid_op = record { key = not_valid.Symbol.symbol; T = not_valid_contract.ended; clauses = λ M 𝓤 𝓛. not_valid_contract.clauses 𝓛; Says = not_valid.Reads.Learnt; O = _; seen = λ κs. whole }
 
 pub not_valid_fixes : Fixes not_valid_op
 not_valid_fixes = record {

@@ -20,9 +20,8 @@ decreases-loop values count dots frame at v₀ j₀ v j = count - j
 -- the number so far times the values is small, and the pixel that is read lies in the frame
 low : (c : tie.In-loop-j invariant-loop decreases-loop) → c.loop-j.v * c.args.values ≤ 1020
 low c =
-    let s = c in
-    let l : c.loop-j.v ≤ 255 = omega (arith, c.loop-j.invariant.1, number_small s.requires.0 (λ (i : ℕ). get_or s.args.frame.now (s.args.at + i * s.args.dots) 0) c.loop-j.j c.loop-j.invariant.0) in
-    omega (arith, mul-le-mul_right s.args.values l, values_le s.requires.0)
+    let l : c.loop-j.v ≤ 255 = omega (arith, c.loop-j.invariant.1, number_small c.requires.0 (λ (i : ℕ). get_or c.args.frame.now (c.args.at + i * c.args.dots) 0) c.loop-j.j c.loop-j.invariant.0) in
+    omega (arith, mul-le-mul_right c.args.values l, values_le c.requires.0)
 
 place : (c : tie.In-loop-j invariant-loop decreases-loop) → c.loop-j.j * c.args.dots < c.args.count * c.args.dots
 place c = element_within c.requires.0 c.loop-j.j (omega arith)
@@ -56,21 +55,17 @@ loop-j-smaller c = omega arith
 
 loop-j-preserved : tie.Need-loop-j-preserved invariant-loop decreases-loop
 loop-j-preserved c =
-    let l = c in
-    let s = c in
-    (omega arith, digit_more s.args.values l.loop-j.j (λ (i : ℕ). value s.args.values (get_or s.args.frame.now (s.args.at + i * s.args.dots) 0)) l.loop-j.invariant.1 c.value.ensures.0)
+    (omega arith, digit_more c.args.values c.loop-j.j (λ (i : ℕ). value c.args.values (get_or c.args.frame.now (c.args.at + i * c.args.dots) 0)) c.loop-j.invariant.1 c.value.ensures.0)
 
 overflow_cast-result : tie.Need-overflow_cast-result invariant-loop decreases-loop
 overflow_cast-result c =
-    let s = c in
-    omega (arith, c.loop-j.invariant.1, number_small s.requires.0 (λ (i : ℕ). get_or s.args.frame.now (s.args.at + i * s.args.dots) 0) c.loop-j.j c.loop-j.invariant.0)
+    omega (arith, c.loop-j.invariant.1, number_small c.requires.0 (λ (i : ℕ). get_or c.args.frame.now (c.args.at + i * c.args.dots) 0) c.loop-j.j c.loop-j.invariant.0)
 
 returns : tie.Need-returns invariant-loop decreases-loop
 unfolding read
 returns c =
-    let s = c in
-    let e : c.loop-j.j ≡ s.args.count = omega arith in
-    c.loop-j.invariant.1 ∙ ap (digits s.args.values (λ (i : ℕ). value s.args.values (get_or s.args.frame.now (s.args.at + i * s.args.dots) 0))) e
+    let e : c.loop-j.j ≡ c.args.count = omega arith in
+    c.loop-j.invariant.1 ∙ ap (digits c.args.values (λ (i : ℕ). value c.args.values (get_or c.args.frame.now (c.args.at + i * c.args.dots) 0))) e
 
 pub byte_spec : {M : Type 1} → statement M
 byte_spec =

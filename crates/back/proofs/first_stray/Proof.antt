@@ -33,9 +33,8 @@ returns-then-differ c = search rules
 
 returns-2 : tie.Need-returns
 returns-2 c =
-    let d = c in
     let s = start_of c.before.before.before.before in
-    sym (drawing_clean s.args.look s.args.strip.now s.args.strip.now s.args.frame.now _ _ s.requires.0 s.requires.1 s.requires.2 (omega (arith, length-replicate {A = ℕ} frame_length 0)) d.draw.ensures.1 (c.differ.ensures c.if-differ.false))
+    sym (drawing_clean s.args.look s.args.strip.now s.args.strip.now s.args.frame.now _ _ s.requires.0 s.requires.1 s.requires.2 (omega (arith, length-replicate {A = ℕ} frame_length 0)) c.draw.ensures.1 (c.differ.ensures c.if-differ.false))
 
 pub first_stray_spec : {M : Type 1} → statement M
 first_stray_spec =

@@ -61,13 +61,11 @@ loop-c-smaller : tie.Need-loop-c-smaller invariant-loop decreases-loop
 loop-c-smaller c = omega arith
 
 loop-c-preserved : tie.Need-loop-c-preserved invariant-loop decreases-loop
-loop-c-preserved c =
-    let l = c in
-    let s = c in (
-      omega arith,
-      step _ _ l.loop-c.invariant.1 (omega (arith, byte_at c.before, s.requires.3, l.loop-c.invariant.1.long))
-          (c.byte.ensures ∙ ap (read s.args.values s.args.count s.args.dots s.args.frame.now) (cell_start s.requires.0 s.args.n l.loop-c.c)),
-    )
+loop-c-preserved c = (
+  omega arith,
+  step _ _ c.loop-c.invariant.1 (omega (arith, byte_at c.before, c.requires.3, c.loop-c.invariant.1.long))
+      (c.byte.ensures ∙ ap (read c.args.values c.args.count c.args.dots c.args.frame.now) (cell_start c.requires.0 c.args.n c.loop-c.c)),
+)
 
 shape_of-strip : tie.Need-shape_of-strip invariant-loop decreases-loop
 shape_of-strip c = c.loop-c.invariant.1.long

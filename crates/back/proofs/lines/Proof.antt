@@ -19,7 +19,8 @@ loop-n-init : tie.Need-loop-n-init invariant-loop decreases-loop
 loop-n-init c = (zero-le, upto (omega arith) (none _ _ _))
 
 line-requires : tie.Need-line-requires invariant-loop decreases-loop
-line-requires c κs = let s = c in (s.requires.0, omega arith, s.requires.1, omega (arith, s.requires.2, c.loop-n.invariant.1.long))
+line-requires c κs =
+    (c.requires.0, omega arith, c.requires.1, omega (arith, c.requires.2, c.loop-n.invariant.1.long))
 
 overflow_add-n : tie.Need-overflow_add-n invariant-loop decreases-loop
 overflow_add-n c = omega arith
@@ -28,16 +29,16 @@ loop-n-smaller : tie.Need-loop-n-smaller invariant-loop decreases-loop
 loop-n-smaller c = omega arith
 
 loop-n-preserved : tie.Need-loop-n-preserved invariant-loop decreases-loop
-loop-n-preserved c = let l = c in (omega arith, upto (next_line l.requires.0 l.loop-n.n) (join zero-le (omega arith) l.loop-n.invariant.1 c.line.ensures))
+loop-n-preserved c =
+    (omega arith, upto (next_line c.requires.0 c.loop-n.n) (join zero-le (omega arith) c.loop-n.invariant.1 c.line.ensures))
 
 shape_of-strip : tie.Need-shape_of-strip invariant-loop decreases-loop
 shape_of-strip c = c.loop-n.invariant.1.long
 
 returns : tie.Need-returns invariant-loop decreases-loop
 returns c =
-    let s = c in
     let e : c.loop-n.n ≡ 192 = omega arith in
-    upto (ap (λ (m : ℕ). m * (256 / (s.args.count * s.args.dots))) e) c.loop-n.invariant.1
+    upto (ap (λ (m : ℕ). m * (256 / (c.args.count * c.args.dots))) e) c.loop-n.invariant.1
 
 pub lines_spec : {M : Type 1} → statement M
 lines_spec =

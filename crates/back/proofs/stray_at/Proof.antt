@@ -28,8 +28,7 @@ shows-requires c κs = search rules
 returns : tie.Need-returns
 unfolding stray
 returns c =
-    let s = c in
-    simp (c.shows.ensures, c.dots.ensures, (left_of s.args.look s.requires.0 s.args.k).0)
+    simp (c.shows.ensures, c.dots.ensures, (left_of c.args.look c.requires.0 c.args.k).0)
 
 pub stray_at_spec : {M : Type 1} → statement M
 stray_at_spec =

@@ -67,14 +67,12 @@ unstored c = c.before.before.before.before.before.before
 
 returns-2 : tie.Need-returns
 returns-2 c =
-    let d = c in
-    let g = c in
     let s = start_of (unstored c).before.before in
     let l = s.args.look in
-    let n = d.strip_length-length.ensures in
-    let f = d.first_stray-k.ensures in
+    let n = c.strip_length-length.ensures in
+    let f = c.first_stray-k.ensures in
     let kept = stored (read_byte l s.args.frame.now) (strip_length l) (gather-of (unstored c).before.before).gather.new.strip s.args.strip.now n (gathered-long (gather-of (unstored c).before.before)) (fits s).strip_long (λ k h. (gather-of (unstored c).before.before).gather.ensures.is k zero-le h) c.store.ensures in
-    let k = told_clean l s.args.frame.now s.args.strip.now s.requires (rw f at d.if-k-lt-FRAME_LENGTH.false) kept in
+    let k = told_clean l s.args.frame.now s.args.strip.now s.requires (rw f at c.if-k-lt-FRAME_LENGTH.false) kept in
     (ap done n ∙ k.0, k.1)
 
 pub take_spec : {M : Type 1} → statement M

@@ -19,9 +19,8 @@ kept-rest-requires c κs = search rules
 -- what is passed on is read back from its bits
 returns : tie.Need-returns
 returns c =
-    let a = c in
-    let z-is = here a.args.z a.ranges.z in
-    side_is a.args.z a.args.n a.args.edge (c.off-before.ensures ∙ ap off_of z-is) (c.start-first.ensures ∙ ap start_of z-is) c.kept-rest.ensures
+    let z-is = here c.args.z c.ranges.z in
+    side_is c.args.z c.args.n c.args.edge (c.off-before.ensures ∙ ap off_of z-is) (c.start-first.ensures ∙ ap start_of z-is) c.kept-rest.ensures
 
 pub clip_spec : {M : Type 1} → statement M
 clip_spec = tie.close (tie.spec off-before-requires start-first-requires kept-rest-requires returns)

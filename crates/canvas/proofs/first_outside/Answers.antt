@@ -1,3 +1,4 @@
+-- `canvas::first_outside` meets its contract: the search goes on past a placement that lies inside.
 use Rattle.std.proofs.Common.{ℕ, ◌-◌, get_or, ap, ◌∙◌, arith}
 use Rattle.promises.specs.Choose.{choose}
 use Rattle.plans.specs.Canvas.{outside}

@@ -1,3 +1,4 @@
+-- `canvas::lay` meets its contract: turn by turn by the laws of turns, and where it refuses nothing is entered or laid.
 use Rattle.std.proofs.Common.{ℕ, ◌≡◌, ◌<◌, ◌+◌, List, [], ◌∷◌, length, get_or, slice_set, eqb, refl, sym, ap, subst, ◌∙◌, arith}
 use Rattle.promises.specs.Choose.{choose}
 use Rattle.promises.specs.Told.{Told}

@@ -26,14 +26,10 @@ check-answer-requires-3 c κs = search rules
 returns : tie.Need-returns
 unfolding order_told
 returns c =
-    let many = c in
-    let sized = c in
-    let tested = c in
-    let short = c in
-    let a = short.args in
+    let a = c.args in
     let order = lay_order a.frame a.width a.height a.room a.count a.first in
     let e : told_of c.check-answer-3.result ≡ after_each order (done 0) =
-    next _ c.check-answer-3.ensures (next _ many.check-answer-2.ensures (next _ (rw tested.canvas_fits.ensures at sized.check-answer.ensures) short.short_frame-answer.ensures)) in
+    next _ c.check-answer-3.ensures (next _ c.check-answer-2.ensures (next _ (rw c.canvas_fits.ensures at c.check-answer.ensures) c.short_frame-answer.ensures)) in
     e ∙ in_order (done 0) refl order tt
 
 pub lay_answer_spec : {M : Type 1} → statement M

@@ -47,19 +47,24 @@ abbrev both : tie.Else-on-eq0 → tie.After-clip-v
 both c = c.before.before.before
 
 overflow_add-from : tie.Need-overflow_add-from
-overflow_add-from c = let e = c in record { fits = omega (arith, law.near (measured (both c.before.before)) e.if-on-eq0.false) }
+overflow_add-from c =
+    record { fits = omega (arith, law.near (measured (both c.before.before)) c.if-on-eq0.false) }
 
 overflow_mul-from : tie.Need-overflow_mul-from
-overflow_mul-from c = let e = c in record { fits = omega (arith, law.near (measured (both c.before.before)) e.if-on-eq0.false) }
+overflow_mul-from c =
+    record { fits = omega (arith, law.near (measured (both c.before.before)) c.if-on-eq0.false) }
 
 overflow_add-from-2 : tie.Need-overflow_add-from-2
-overflow_add-from-2 c = let e = c in record { fits = omega (arith, law.near (measured (both c.before.before.before.before)) e.if-on-eq0.false) }
+overflow_add-from-2 c =
+    record { fits = omega (arith, law.near (measured (both c.before.before.before.before)) c.if-on-eq0.false) }
 
 overflow_add-from-3 : tie.Need-overflow_add-from-3
-overflow_add-from-3 c = let e = c in record { fits = omega (arith, law.near (measured (both c.before.before.before.before)) e.if-on-eq0.false) }
+overflow_add-from-3 c =
+    record { fits = omega (arith, law.near (measured (both c.before.before.before.before)) c.if-on-eq0.false) }
 
 rows-requires : tie.Need-rows-requires
-rows-requires c κs = let e = c in law.asked (measured (both c.before.before.before.before.before)) e.if-on-eq0.false
+rows-requires c κs =
+    law.asked (measured (both c.before.before.before.before.before)) c.if-on-eq0.false
 
 -- and seen from where the rows are copied
 abbrev copied : tie.After-rows → tie.Else-on-eq0
@@ -73,9 +78,8 @@ shape_of-canvas c = search rules
 
 returns-2 : tie.Need-returns
 returns-2 c =
-    let r = c in
     let m = measured (both (copied c.before.before.before)) in
-    (c.counted-2.ensures ∙ law.entry m, law.pixels m r.rows.ensures)
+    (c.counted-2.ensures ∙ law.entry m, law.pixels m c.rows.ensures)
 
 pub lay_one_spec : {M : Type 1} → statement M
 lay_one_spec =

@@ -48,7 +48,8 @@ overflow_add-line-in-loop-i : tie.Need-overflow_add-line-in-loop-i invariant-loo
 overflow_add-line-in-loop-i c = omega (arith, here c.before)
 
 row-requires : tie.Need-row-requires invariant-loop decreases-loop
-row-requires c κs = let t = c in (omega (arith, (start c.before.before).requires.1.0), omega (arith, here c.before, t.loop-i.invariant.1.long))
+row-requires c κs =
+    (omega (arith, (start c.before.before).requires.1.0), omega (arith, here c.before, c.loop-i.invariant.1.long))
 
 overflow_add-i : tie.Need-overflow_add-i invariant-loop decreases-loop
 overflow_add-i c = omega arith
@@ -58,17 +59,15 @@ loop-i-smaller c = omega arith
 
 loop-i-preserved : tie.Need-loop-i-preserved invariant-loop decreases-loop
 loop-i-preserved c =
-    let t = c in
-    (omega arith, row_more _ _ _ _ _ _ t.loop-i.i (omega arith) (start c.before.before.before.before.before).requires.0.3 t.loop-i.invariant.1 c.row.ensures)
+    (omega arith, row_more _ _ _ _ _ _ c.loop-i.i (omega arith) (start c.before.before.before.before.before).requires.0.3 c.loop-i.invariant.1 c.row.ensures)
 
 shape_of-canvas : tie.Need-shape_of-canvas invariant-loop decreases-loop
 shape_of-canvas c = c.loop-i.invariant.1.long
 
 returns : tie.Need-returns invariant-loop decreases-loop
 returns c =
-    let t = c in
-    let all : t.loop-i.i ≡ (start c.before).args.lines = omega arith in
-    rw all at t.loop-i.invariant.1
+    let all : c.loop-i.i ≡ (start c.before).args.lines = omega arith in
+    rw all at c.loop-i.invariant.1
 
 pub rows_spec : {M : Type 1} → statement M
 rows_spec =

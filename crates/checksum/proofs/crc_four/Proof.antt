@@ -30,11 +30,9 @@ entry-requires-4 c κs = search rules
 
 returns : tie.Need-returns
 returns c =
-    let two = c in
-    let w = c in
-    four_by _ (small c.before.before.before.before) _ _ _ _ two.entry.ensures two.entry-2.ensures c.entry-3.ensures c.entry-4.ensures
-    ∙ ap (λ (r : ℕ). crc_bits 32 (bit_xor r w.word.result)) w.requires.1
-    ∙ w.word.ensures
+    four_by _ (small c.before.before.before.before) _ _ _ _ c.entry.ensures c.entry-2.ensures c.entry-3.ensures c.entry-4.ensures
+    ∙ ap (λ (r : ℕ). crc_bits 32 (bit_xor r c.word.result)) c.requires.1
+    ∙ c.word.ensures
 
 pub crc_four_spec : {M : Type 1} → statement M
 crc_four_spec =

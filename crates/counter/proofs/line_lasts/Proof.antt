@@ -51,23 +51,19 @@ returns-then-ends_count c = y-is c.before ∙ sym (counted_lasts (start_of c.bef
 
 returns-then-one_run-cleared : tie.Need-returns-then-one_run-cleared
 returns-then-one_run-cleared c =
-    let e = c in
-    sym (uncounted_lasts (start_of c.before.before).args.settings _ _ (sym e.ends_count.ensures ∙ c.if-ends_count.false) (both_is c.before.before ∙ c.if-one_run-cleared.true) (stretch-is c.before.before))
+    sym (uncounted_lasts (start_of c.before.before).args.settings _ _ (sym c.ends_count.ensures ∙ c.if-ends_count.false) (both_is c.before.before ∙ c.if-one_run-cleared.true) (stretch-is c.before.before))
 
 overflow_mul-result : tie.Need-overflow_mul-result
 overflow_mul-result c =
-    let e = c in
     omega (arith, subst (λ (n : ℕ). n ≤ 12) (sym (ap₂ ◌*◌ (x-is c.before.before.before) (y-is c.before.before.before))) (divs_le (start_of c.before.before.before).args.settings))
 
 returns-then-one_run-x : tie.Need-returns-then-one_run-x
 returns-then-one_run-x c =
-    let e = c in
-    ap₂ ◌*◌ (x-is c.before.before.before) (y-is c.before.before.before) ∙ sym (uncounted_lasts (start_of c.before.before.before).args.settings _ _ (sym e.ends_count.ensures ∙ c.if-ends_count.false) (both_is c.before.before.before ∙ c.if-one_run-cleared.false) (stretch-is c.before.before.before ∙ c.if-one_run-x.true))
+    ap₂ ◌*◌ (x-is c.before.before.before) (y-is c.before.before.before) ∙ sym (uncounted_lasts (start_of c.before.before.before).args.settings _ _ (sym c.ends_count.ensures ∙ c.if-ends_count.false) (both_is c.before.before.before ∙ c.if-one_run-cleared.false) (stretch-is c.before.before.before ∙ c.if-one_run-x.true))
 
 returns-else-one_run-x : tie.Need-returns-else-one_run-x
 returns-else-one_run-x c =
-    let e = c in
-    sym (uncounted_lasts (start_of c.before.before.before).args.settings _ _ (sym e.ends_count.ensures ∙ c.if-ends_count.false) (both_is c.before.before.before ∙ c.if-one_run-cleared.false) (stretch-is c.before.before.before ∙ c.if-one_run-x.false))
+    sym (uncounted_lasts (start_of c.before.before.before).args.settings _ _ (sym c.ends_count.ensures ∙ c.if-ends_count.false) (both_is c.before.before.before ∙ c.if-one_run-cleared.false) (stretch-is c.before.before.before ∙ c.if-one_run-x.false))
 
 pub line_lasts_spec : {M : Type 1} → statement M
 line_lasts_spec =

@@ -15,8 +15,7 @@ width-requires c κs = search rules
 
 returns : tie.Need-returns
 returns c =
-    let x = c in
-    ap₂ (λ (w n : ℕ). eqb w 16 || eqb n 1) c.width.ensures (x.times_x-x.ensures ∙ ap (λ (v : ℕ). get_or times_x v 0) x.video_mode.ensures)
+    ap₂ (λ (w n : ℕ). eqb w 16 || eqb n 1) c.width.ensures (c.times_x-x.ensures ∙ ap (λ (v : ℕ). get_or times_x v 0) c.video_mode.ensures)
 
 pub one_stretch_spec : {M : Type 1} → statement M
 one_stretch_spec = tie.close (tie.spec video_mode-requires times_x-x-requires width-requires returns)

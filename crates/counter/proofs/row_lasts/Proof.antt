@@ -36,22 +36,19 @@ clears_b4-requires c κs = search rules
 
 overflow_mul-result : tie.Need-overflow_mul-result
 overflow_mul-result c =
-    let e = c in
     let s = (start_of c.before).args.settings in
-    omega (arith, subst (λ (n : ℕ). n ≤ 32 * 192) (sym (ap₂ ◌*◌ e.width-wide.ensures e.line_lasts-lines.ensures)) (mul-le-mul (width_le s.look) (lines_le s)))
+    omega (arith, subst (λ (n : ℕ). n ≤ 32 * 192) (sym (ap₂ ◌*◌ c.width-wide.ensures c.line_lasts-lines.ensures)) (mul-le-mul (width_le s.look) (lines_le s)))
 
 overflow_mul-result-else-clears_b4 : tie.Need-overflow_mul-result-else-clears_b4
 overflow_mul-result-else-clears_b4 c = omega (arith, x-is c.before, div_x_le (start_of c.before).args.settings)
 
 returns-then-clears_b4 : tie.Need-returns-then-clears_b4
 returns-then-clears_b4 c =
-    let e = c in
-    ap₂ ◌*◌ e.width-wide.ensures e.line_lasts-lines.ensures ∙ sym (lasts (start_of c.before).args.settings _ (sym e.clears_b4.ensures ∙ c.if-clears_b4.true))
+    ap₂ ◌*◌ c.width-wide.ensures c.line_lasts-lines.ensures ∙ sym (lasts (start_of c.before).args.settings _ (sym c.clears_b4.ensures ∙ c.if-clears_b4.true))
 
 returns-else-clears_b4 : tie.Need-returns-else-clears_b4
 returns-else-clears_b4 c =
-    let e = c in
-    ap (λ (x : ℕ). 32 * x) (x-is c.before) ∙ sym (lasts (start_of c.before).args.settings _ (sym e.clears_b4.ensures ∙ c.if-clears_b4.false))
+    ap (λ (x : ℕ). 32 * x) (x-is c.before) ∙ sym (lasts (start_of c.before).args.settings _ (sym c.clears_b4.ensures ∙ c.if-clears_b4.false))
 
 pub row_lasts_spec : {M : Type 1} → statement M
 row_lasts_spec =

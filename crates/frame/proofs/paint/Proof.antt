@@ -29,9 +29,8 @@ shape_of-frame-then-graphics c = search rules
 
 returns-then-graphics : tie.Need-returns-then-graphics
 returns-then-graphics c =
-    let g = c in
     let s = start_of c.before.before.before.before.before in
-    by (λ k _ _. sym (in_graphics s.args.look s.args.font.now s.args.strip.now k (sym g.graphics.ensures ∙ c.if-graphics.true)))
+    by (λ k _ _. sym (in_graphics s.args.look s.args.font.now s.args.strip.now k (sym c.graphics.ensures ∙ c.if-graphics.true)))
     c.plot.ensures
 
 shape_of-frame-else-graphics : tie.Need-shape_of-frame-else-graphics

@@ -85,9 +85,8 @@ refused-requires c κs = search rules
 
 returns-then-number-ne0 : tie.Need-returns-then-number-ne0
 returns-then-number-ne0 c =
-    let r = c in
     let no : (told_of (fields c.before.before.before).answer).number ≡ 0 → ⊥ = λ z. c.if-number-ne0.true (c.number.ensures ∙ z) in
-    taken_refused (bytes c.before.before.before) (fields c.before.before.before).answer (told_broken (bytes c.before.before.before) r.read-fields.ensures.told no) (counted c.before.before.before) c.refused.ensures no
+    taken_refused (bytes c.before.before.before) (fields c.before.before.before).answer (told_broken (bytes c.before.before.before) c.read-fields.ensures.told no) (counted c.before.before.before) c.refused.ensures no
 
 slice_bounds-writes-end : tie.Need-slice_bounds-writes-end
 slice_bounds-writes-end c =
@@ -110,10 +109,9 @@ refused-requires-then-number-ne0-2 c κs = search rules
 
 returns-then-number-ne0-2 : tie.Need-returns-then-number-ne0-2
 returns-then-number-ne0-2 c =
-    let p = c in
     let w = whole_of c.before.before.before in
-    let no : (told_of p.play-played.result).number ≡ 0 → ⊥ = λ z. c.if-number-ne0-2.true (c.number-2.ensures ∙ z) in
-    taken_refused (bytes (read_of w)) p.play-played.result (told_elsewhere (bytes (read_of w)) (accepted-at w) (played-all c.before.before.before) no) (counted (read_of w)) c.refused-then-number-ne0-2.ensures no
+    let no : (told_of c.play-played.result).number ≡ 0 → ⊥ = λ z. c.if-number-ne0-2.true (c.number-2.ensures ∙ z) in
+    taken_refused (bytes (read_of w)) c.play-played.result (told_elsewhere (bytes (read_of w)) (accepted-at w) (played-all c.before.before.before) no) (counted (read_of w)) c.refused-then-number-ne0-2.ensures no
 
 value-requires : tie.Need-value-requires
 value-requires c κs = search rules
@@ -132,14 +130,12 @@ refused-requires-then-number-ne0-3 c κs = search rules
 
 returns-then-number-ne0-3 : tie.Need-returns-then-number-ne0-3
 returns-then-number-ne0-3 c =
-    let a = c in
-    taken_refused (bytes (sheet-of c.before.before.before.before)) a.settings_answer-answer.result (judged c.before.before.before) (counted (sheet-of c.before.before.before.before)) c.refused-then-number-ne0-3.ensures
+    taken_refused (bytes (sheet-of c.before.before.before.before)) c.settings_answer-answer.result (judged c.before.before.before) (counted (sheet-of c.before.before.before.before)) c.refused-then-number-ne0-3.ensures
     (λ z. c.if-number-ne0-3.true (c.number-3.ensures ∙ z))
 
 returns-4 : tie.Need-returns
 returns-4 c =
-    let a = c in
-    taken_done (bytes (sheet-of c.before.before.before)) a.settings_answer-answer.result (judged c.before.before) (counted (sheet-of c.before.before.before)) (refl, settings-are c.before.before.before, refl) (sym c.number-3.ensures ∙ c.if-number-ne0-3.false)
+    taken_done (bytes (sheet-of c.before.before.before)) c.settings_answer-answer.result (judged c.before.before) (counted (sheet-of c.before.before.before)) (refl, settings-are c.before.before.before, refl) (sym c.number-3.ensures ∙ c.if-number-ne0-3.false)
 
 pub settings_of_spec : {M : Type 1} → statement M
 settings_of_spec =

@@ -25,6 +25,10 @@ own_of c = c.before.before.before
 abbrev begin-of : tie.After-struct_known-2-1 → tie.Start
 begin-of c = start_of (own_of c)
 
+-- where the record's sheet was found whole, from where it was found to lack the key
+abbrev accepted-of : tie.Else-here → tie.Else-not-of_record
+accepted-of c = c.before.before.before.before.before
+
 -- ---- the two sheets
 own-whole : (c : tie.Else-not-of_record) → WholeGiven (read_sheet (start_of c.before).args.«record».now) c.survey-of_record.result
 own-whole c = whole_given (read_sheet (start_of c.before).args.«record».now) c.survey-of_record.result c.survey-of_record.ensures (not-false _ c.if-not-of_record.false)
@@ -44,9 +48,8 @@ refused-requires c κs = search rules
 
 returns-then-not-of_record : tie.Need-returns-then-not-of_record
 returns-then-not-of_record c =
-    let p = c in
     let a = (start_of c.before.before).args in
-    let g = broken_given (read_sheet a.«record».now) p.survey-of_record.result p.survey-of_record.ensures (not-true _ c.if-not-of_record.true) in
+    let g = broken_given (read_sheet a.«record».now) c.survey-of_record.result c.survey-of_record.ensures (not-true _ c.if-not-of_record.true) in
     let e = broken_record a.«record».now a.cover.now a.key.now g.not_got in
     (ap told_of c.refused.ensures.0 ∙ ap (λ (t : Told). told 11 t.place 0) g.told_broken ∙ sym e.tells, c.refused.ensures.1 ∙ sym e.holds)
 
@@ -58,9 +61,8 @@ refused-requires-then-not-of_cover c κs = search rules
 
 returns-then-not-of_cover : tie.Need-returns-then-not-of_cover
 returns-then-not-of_cover c =
-    let p = c in
     let a = (begin-of c.before.before).args in
-    let g = broken_given (read_sheet a.cover.now) p.survey-of_cover.result p.survey-of_cover.ensures (not-true _ c.if-not-of_cover.true) in
+    let g = broken_given (read_sheet a.cover.now) c.survey-of_cover.result c.survey-of_cover.ensures (not-true _ c.if-not-of_cover.true) in
     let e = broken_cover a.«record».now a.cover.now a.key.now (own-whole c.before.before.before.before).is_got_lem g.not_got in
     (ap told_of c.refused-then-not-of_cover.ensures.0 ∙ ap (λ (t : Told). told 11 t.place 0) g.told_broken ∙ sym e.tells, c.refused-then-not-of_cover.ensures.1 ∙ sym e.holds)
 
@@ -74,13 +76,11 @@ taken-requires c κs = search rules
 
 returns-then-here : tie.Need-returns-then-here
 returns-then-here c =
-    let k = c in
-    let s = c in
     let a = (begin-of c.before.before.before.before).args in
-    let h : has_key a.«record».now a.key.now ≡ true = sym (ap (λ (x : Found). x.found) k.seek-here.ensures) ∙ c.if-here.true in
+    let h : has_key a.«record».now a.key.now ≡ true = sym (ap (λ (x : Found). x.found) c.seek-here.ensures) ∙ c.if-here.true in
     let e = in_record a.«record».now a.cover.now a.key.now (own-whole c.before.before.before.before.before.before).is_got_lem (cover-whole c.before.before.before).is_got_lem h in (
       ap told_of c.taken.ensures.0 ∙ sym e.tells,
-      c.taken.ensures.1 ∙ found_piece false a.«record».now a.key.now k.seek-here.result k.seek-here.ensures ∙ sym e.holds,
+      c.taken.ensures.1 ∙ found_piece false a.«record».now a.key.now c.seek-here.result c.seek-here.ensures ∙ sym e.holds,
     )
 
 seek-there-requires : tie.Need-seek-there-requires
@@ -93,14 +93,11 @@ taken-requires-then-there c κs = search rules
 
 returns-then-there : tie.Need-returns-then-there
 returns-then-there c =
-    let k = c in
-    let q = c in
-    let s = c in
     let a = (begin-of c.before.before.before.before.before.before).args in
-    let h : has_key a.cover.now a.key.now ≡ true = sym (ap (λ (x : Found). x.found) k.seek-there.ensures) ∙ c.if-there.true in
-    let e = in_cover a.«record».now a.cover.now a.key.now (own-whole c.before.before.before.before.before.before.before.before).is_got_lem (cover-whole c.before.before.before.before.before).is_got_lem (own-lacks c.before.before.before) h in (
+    let h : has_key a.cover.now a.key.now ≡ true = sym (ap (λ (x : Found). x.found) c.seek-there.ensures) ∙ c.if-there.true in
+    let e = in_cover a.«record».now a.cover.now a.key.now (own-whole (accepted-of c.before.before.before)).is_got_lem (cover-whole c.before.before.before.before.before).is_got_lem (own-lacks c.before.before.before) h in (
       ap told_of c.taken-then-there.ensures.0 ∙ sym e.tells,
-      c.taken-then-there.ensures.1 ∙ found_piece true a.cover.now a.key.now k.seek-there.result k.seek-there.ensures ∙ sym e.holds,
+      c.taken-then-there.ensures.1 ∙ found_piece true a.cover.now a.key.now c.seek-there.result c.seek-there.ensures ∙ sym e.holds,
     )
 
 refused-requires-3 : tie.Need-refused-requires-2
@@ -108,12 +105,9 @@ refused-requires-3 c κs = search rules
 
 returns-5 : tie.Need-returns
 returns-5 c =
-    let l = c in
-    let q = c in
-    let s = c in
     let a = (begin-of c.before.before.before.before.before.before).args in
-    let h : has_key a.cover.now a.key.now ≡ false = sym (ap (λ (x : Found). x.found) l.seek-there.ensures) ∙ l.if-there.false in
-    let e = in_neither a.«record».now a.cover.now a.key.now (own-whole c.before.before.before.before.before.before.before.before).is_got_lem (cover-whole c.before.before.before.before.before).is_got_lem (own-lacks c.before.before.before) h in
+    let h : has_key a.cover.now a.key.now ≡ false = sym (ap (λ (x : Found). x.found) c.seek-there.ensures) ∙ c.if-there.false in
+    let e = in_neither a.«record».now a.cover.now a.key.now (own-whole (accepted-of c.before.before.before)).is_got_lem (cover-whole c.before.before.before.before.before).is_got_lem (own-lacks c.before.before.before) h in
     (ap told_of c.refused-2.ensures.0 ∙ sym e.tells, c.refused-2.ensures.1 ∙ sym e.holds)
 
 pub find_spec : {M : Type 1} → statement M

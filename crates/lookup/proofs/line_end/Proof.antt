@@ -29,8 +29,7 @@ bounds-s-i c = omega arith
 
 returns-then-s-i-eq10 : tie.Need-returns-then-s-i-eq10 invariant-loop decreases-loop
 returns-then-s-i-eq10 c =
-    let l = c in
-    omega (arith, l.loop-i.invariant.1, end_here (start_of c.before.before.before).args.s.now l.loop-i.i (omega arith) c.if-s-i-eq10.true)
+    omega (arith, c.loop-i.invariant.1, end_here (start_of c.before.before.before).args.s.now c.loop-i.i (omega arith) c.if-s-i-eq10.true)
 
 overflow_add-i : tie.Need-overflow_add-i invariant-loop decreases-loop
 overflow_add-i c = omega arith
@@ -40,11 +39,11 @@ loop-i-smaller c = omega arith
 
 loop-i-preserved : tie.Need-loop-i-preserved invariant-loop decreases-loop
 loop-i-preserved c =
-    let l = c in
-    (omega arith, omega (arith, l.loop-i.invariant.1, end_more (start_of c.before.before.before).args.s.now l.loop-i.i (omega arith) c.if-s-i-eq10.false))
+    (omega arith, omega (arith, c.loop-i.invariant.1, end_more (start_of c.before.before.before).args.s.now c.loop-i.i (omega arith) c.if-s-i-eq10.false))
 
 returns-2 : tie.Need-returns invariant-loop decreases-loop
-returns-2 c = let l = c in omega (arith, l.loop-i.invariant.1, end_past (start_of c.before).args.s.now l.loop-i.i (omega arith))
+returns-2 c =
+    omega (arith, c.loop-i.invariant.1, end_past (start_of c.before).args.s.now c.loop-i.i (omega arith))
 
 pub line_end_spec : {M : Type 1} → statement M
 line_end_spec =

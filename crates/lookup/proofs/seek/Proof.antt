@@ -18,8 +18,7 @@ decreases-loop s from key at₀ at = length s - at
 -- the line of this turn
 this : (c : tie.In-loop-at invariant-loop decreases-loop) → Here c.args.s.now c.args.key.now c.loop-at.at
 this c =
-    let e = c in
-    line_here e.args.s.now e.args.key.now e.requires.0 c.loop-at.at c.loop-at.invariant (omega arith)
+    line_here c.args.s.now c.args.key.now c.requires.0 c.loop-at.at c.loop-at.invariant (omega arith)
 
 -- where it ends
 end_of : (c : tie.After-line_end-end invariant-loop decreases-loop) → c.line_end-end.result ≡ c.loop-at.at + (this c.before).size
@@ -30,7 +29,8 @@ keyed : (c : tie.Then-has_key invariant-loop decreases-loop) → keyed_by c.args
 keyed c = sym c.has_key.ensures ∙ c.if-has_key.true
 
 loop-at-init : tie.Need-loop-at-init invariant-loop decreases-loop
-loop-at-init c = let e = c in nothing_passed e.args.s.now e.args.key.now e.args.from e.requires.1
+loop-at-init c =
+    nothing_passed c.args.s.now c.args.key.now c.args.from c.requires.1
 
 line_end-end-requires : tie.Need-line_end-end-requires invariant-loop decreases-loop
 line_end-end-requires c κs = omega arith
@@ -61,8 +61,7 @@ loop-at-preserved c = (this c.before.before.before).missed c.line_end-end.result
 
 returns-2 : tie.Need-returns invariant-loop decreases-loop
 returns-2 c =
-    let e = c in
-    none_left e.args.s.now e.args.key.now e.requires.0 c.loop-at.at c.loop-at.invariant (omega arith)
+    none_left c.args.s.now c.args.key.now c.requires.0 c.loop-at.at c.loop-at.invariant (omega arith)
 
 pub seek_spec : {M : Type 1} → statement M
 seek_spec =

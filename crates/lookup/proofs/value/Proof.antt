@@ -39,8 +39,7 @@ slice_bounds-result-end c = within c.before true c.if-found.true
 
 returns-then-found : tie.Need-returns-then-found
 returns-then-found c =
-    let p = c in
-    let r = p.find-found in
+    let r = c.find-found in
     let a = (start_of c.before.before).args in
     let z : r.result.piece.from + r.result.piece.size - r.result.piece.from ≡ r.result.piece.size = omega arith in
     promised a.«record» a.cover a.key.now r.result.piece r.ensures.1 true c.if-found.true (r.result.piece.from + r.result.piece.size - r.result.piece.from) _ z (record { bytes = refl; block = refl; offset = refl })
@@ -56,8 +55,7 @@ slice_bounds-result-end-2 c = within c.before false c.if-found.false
 
 returns-2 : tie.Need-returns
 returns-2 c =
-    let p = c in
-    let r = p.find-found in
+    let r = c.find-found in
     let a = (start_of c.before.before).args in
     let z : r.result.piece.from + r.result.piece.size - r.result.piece.from ≡ r.result.piece.size = omega arith in
     promised a.«record» a.cover a.key.now r.result.piece r.ensures.1 false c.if-found.false (r.result.piece.from + r.result.piece.size - r.result.piece.from) _ z (record { bytes = refl; block = refl; offset = refl })

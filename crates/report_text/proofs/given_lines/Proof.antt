@@ -56,10 +56,9 @@ line-requires-2 c κs = search rules
 
 returns : tie.Need-returns
 returns c =
-    let h = c in
-    let e = then_line _ (control_word ++ eq) (hex 4 (call-of c.before.before.before.before.before).args.settings.word) (pinned c.before.before.before.before.before) c.line.ensures.0 h.hex-control.ensures in (
+    let e = then_line _ (control_word ++ eq) (hex 4 (call-of c.before.before.before.before.before).args.settings.word) (pinned c.before.before.before.before.before) c.line.ensures.0 c.hex-control.ensures in (
       e ∙ ap text_of (simp append_assoc),
-      (c.line.ensures.1.0, omega (arith, c.line.ensures.1.1, h.line-one.ensures.1.1, ap length h.hex-control.ensures)),
+      (c.line.ensures.1.0, omega (arith, c.line.ensures.1.1, c.line-one.ensures.1.1, ap length c.hex-control.ensures)),
     )
 
 pub given_lines_spec : {M : Type 1} → statement M

@@ -20,12 +20,10 @@ line-requires : tie.Need-line-requires
 line-requires c κs = search rules
 
 returns : tie.Need-returns
-returns c =
-    let d = c in
-    let a = c in (
-      then_line (held a.args.text) (rule_word ++ eq) (rule_digit a.args.settings.rule ∷ []) a.requires.0 c.line.ensures.0 (ap (λ (b : ℕ). b ∷ []) d.rule_digit.ensures),
-      (c.line.ensures.1.0, omega (arith, c.line.ensures.1.1)),
-    )
+returns c = (
+  then_line (held c.args.text) (rule_word ++ eq) (rule_digit c.args.settings.rule ∷ []) c.requires.0 c.line.ensures.0 (ap (λ (b : ℕ). b ∷ []) c.rule_digit.ensures),
+  (c.line.ensures.1.0, omega (arith, c.line.ensures.1.1)),
+)
 
 pub rule_line_spec : {M : Type 1} → statement M
 rule_line_spec =

@@ -20,12 +20,10 @@ view_lines-requires c κs = search rules
 
 returns : tie.Need-returns
 returns c =
-    let r = c in
-    let g = c in
-    let a = g.args in
-    let e = grows (held a.text ++ given_lines a.settings) (rule_printed a.settings) g.given_lines.ensures.0 r.rule_line.ensures.0 in
+    let a = c.args in
+    let e = grows (held a.text ++ given_lines a.settings) (rule_printed a.settings) c.given_lines.ensures.0 c.rule_line.ensures.0 in
     let f = grows ((held a.text ++ given_lines a.settings) ++ rule_printed a.settings) (view_lines a.settings) e c.view_lines.ensures.0 in
-    (f ∙ ap text_of (simp append_assoc), (c.view_lines.ensures.1.0, omega (arith, c.view_lines.ensures.1.1, r.rule_line.ensures.1.1, g.given_lines.ensures.1.1)))
+    (f ∙ ap text_of (simp append_assoc), (c.view_lines.ensures.1.0, omega (arith, c.view_lines.ensures.1.1, c.rule_line.ensures.1.1, c.given_lines.ensures.1.1)))
 
 pub setting_lines_spec : {M : Type 1} → statement M
 setting_lines_spec =

@@ -48,18 +48,15 @@ mode_name-name-requires c κs = search rules
 
 slice_bounds-letters-end : tie.Need-slice_bounds-letters-end
 slice_bounds-letters-end c =
-    let n = c in
-    name_within n.args.settings.look n.mode_name-name.result n.mode_name-name.ensures
+    name_within c.args.settings.look c.mode_name-name.result c.mode_name-name.ensures
 
 slice_bounds-line-end-2 : tie.Need-slice_bounds-line-end-2
 slice_bounds-line-end-2 c =
-    let n = c in
-    sym (name_long n.args.settings.look n.mode_name-name.result n.mode_name-name.ensures)
+    sym (name_long c.args.settings.look c.mode_name-name.result c.mode_name-name.ensures)
 
 line-one-requires : tie.Need-line-one-requires
 line-one-requires c κs =
-    let n = c in
-    (n.requires.0, omega (arith, n.requires.1, letters-few c.before.before.before.before))
+    (c.requires.0, omega (arith, c.requires.1, letters-few c.before.before.before.before))
 
 start-first-requires : tie.Need-start-first-requires
 start-first-requires c κs = search rules
@@ -72,14 +69,10 @@ slice_bounds-line-end-4 c = search rules
 
 line-requires-2 : tie.Need-line-requires
 line-requires-2 c κs =
-    let h = c in
-    let l = c in
-    (l.line-one.ensures.1.0, omega (arith, (call-of c.before.before.before.before.before).requires.1, moded-long c.before.before.before.before.before, ap length (digits_are c.before.before.before)))
+    (c.line-one.ensures.1.0, omega (arith, (call-of c.before.before.before.before.before).requires.1, moded-long c.before.before.before.before.before, ap length (digits_are c.before.before.before)))
 
 returns : tie.Need-returns
 returns c =
-    let h = c in
-    let l = c in
     let e = then_line _ (start_word ++ eq) (hex 4 (address_of (call-of c.before.before.before.before.before.before).args.settings 0 0)) (moded c.before.before.before.before.before.before) c.line.ensures.0 (digits_are c.before.before.before.before) in (
       e ∙ ap text_of (simp append_assoc),
       (c.line.ensures.1.0, omega (arith, c.line.ensures.1.1, moded-long c.before.before.before.before.before.before, ap length (digits_are c.before.before.before.before))),

@@ -40,7 +40,6 @@ started c = c.annotation_start-from.ensures ∙ line_from (sheet c.before) (whic
 
 sized : (c : tie.After-struct_known-then-n-found-1) → c.annotation_line-line.result.size ≡ length (line (here c.before.before.before).value) + 1
 sized c =
-    let p = c in
     let r = c.annotation_line-line in
     ap (λ (x : Step). x.size) (r.ensures.0 ∙ ap (λ (j : ℕ). step_of (read_annotation (drop j (sheet c.before.before.before)))) (started c.before.before) ∙ ap step_of (here c.before.before.before).read)
 

@@ -109,7 +109,6 @@ broken-requires-then-not-pins c κs = search rules
 
 returns-then-not-pins : tie.Need-returns-then-not-pins
 returns-then-not-pins c =
-    let p = c in
     let r = c.keyed_line-pins in
     let h = hex_stuck (pins_word ++ eq) 2 (sheet c.before.before.before.before.before.before.before) (after-deed c.before.before.before.before.before.before.before).at r.result r.ensures.0 (not-true _ c.if-not-pins.true) in
     c.broken-then-not-pins.ensures ∙ sym (ap outline_of (next_sticks read_pins (λ _. read_from_rule) (after-deed c.before.before.before.before.before.before.before) h))
@@ -128,7 +127,6 @@ broken-requires-then-not-ruled c κs = search rules
 
 returns-then-not-ruled : tie.Need-returns-then-not-ruled
 returns-then-not-ruled c =
-    let p = c in
     let r = c.ruled_count-ruled in
     let h = ruled_count_stuck (read_ruled_count (unread (after-pins c.before.before.before.before.before.before))) r.result r.ensures.0 (not-true _ c.if-not-ruled.true) in
     c.broken-then-not-ruled.ensures ∙ sym (ap outline_of (next_sticks read_ruled_count (λ ruled. read_from_writes ruled.1) (after-pins c.before.before.before.before.before.before) h))
@@ -147,7 +145,6 @@ broken-requires-then-not-lines c κs = search rules
 
 returns-then-not-lines : tie.Need-returns-then-not-lines
 returns-then-not-lines c =
-    let p = c in
     let r = c.write_lines-lines in
     let h = written_stuck (read_times read_at (many c.before.before.before.before.before.before) (unread (after-rule c.before.before.before.before.before.before))) r.result r.ensures.0 (not-true _ c.if-not-lines.true) in
     c.broken-then-not-lines.ensures ∙ sym (ap outline_of (next_sticks (read_times read_at (many c.before.before.before.before.before.before)) (λ _. read_annotations) (after-rule c.before.before.before.before.before.before) h))
@@ -166,7 +163,6 @@ broken-requires-then-not-notes c κs = search rules
 
 returns-then-not-notes : tie.Need-returns-then-not-notes
 returns-then-not-notes c =
-    let p = c in
     let r = c.annotation_lines-notes in
     let h = counted_stuck length (read_annotations (unread (after-writes c.before.before.before.before.before.before))) r.result r.ensures.0 (not-true _ c.if-not-notes.true) in
     c.broken-then-not-notes.ensures ∙ sym (ap outline_of (rest_read read_annotations (after-writes c.before.before.before.before.before.before) h))

@@ -41,19 +41,11 @@ not_fitted-requires c κs = search rules
 
 returns : tie.Need-returns
 returns c =
-    let tall = c in
-    let short = c in
-    let font = c in
-    let suited = c in
-    let long = c in
-    let fast = c in
-    let pins = c in
-    let edge = c in
-    let a = edge.args in
+    let a = c.args in
     let d = done (border a.settings.look) in
     let order = show_lengths a.settings a.image a.font a.strip a.frame in
     let e : told_of c.not_fitted.result ≡ after_each order d =
-    next _ c.not_fitted.ensures (next _ tall.short_frame-answer.ensures (next _ short.short_strip-answer.ensures (next _ font.font_length-answer.ensures (next _ suited.not_suited-answer.ensures (next _ long.image_length-answer.ensures (next _ fast.fast_rate-answer.ensures (next _ pins.pins_above-answer.ensures (ap done edge.border.ensures)))))))) in
+    next _ c.not_fitted.ensures (next _ c.short_frame-answer.ensures (next _ c.short_strip-answer.ensures (next _ c.font_length-answer.ensures (next _ c.not_suited-answer.ensures (next _ c.image_length-answer.ensures (next _ c.fast_rate-answer.ensures (next _ c.pins_above-answer.ensures (ap done c.border.ensures)))))))) in
     e ∙ in_order d refl order tt
 
 pub length_answer_spec : {M : Type 1} → statement M

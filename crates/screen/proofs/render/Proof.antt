@@ -52,10 +52,9 @@ shape_of-frame-then-number-ne0 c = search rules
 
 returns-then-number-ne0 : tie.Need-returns-then-number-ne0
 returns-then-number-ne0 c =
-    let d = c in
     let i = start_of c.before.before.before.before in
     let a = i.args in
-    shown_kept a.settings a.image.now a.font.now a.strip.now a.frame.now i.requires room (long a.settings) (fetch-of c.before.before.before.before).fetch.ensures.1.1 d.draw-answer.ensures.0 d.draw-answer.ensures.1
+    shown_kept a.settings a.image.now a.font.now a.strip.now a.frame.now i.requires room (long a.settings) (fetch-of c.before.before.before.before).fetch.ensures.1.1 c.draw-answer.ensures.0 c.draw-answer.ensures.1
     (λ z. c.if-number-ne0.true (c.number.ensures ∙ z))
 
 slice_bounds-store-end : tie.Need-slice_bounds-store-end
@@ -79,14 +78,12 @@ unstored c = c.before.before.before.before.before.before
 
 returns-2 : tie.Need-returns
 returns-2 c =
-    let e = c in
-    let d = c in
     let i = start_of (unstored c).before.before.before.before in
     let a = i.args in
     let f = (fetch-of (unstored c).before.before.before.before).fetch.ensures.1.1 in
     let kept = stored (fetched_byte a.settings a.image.now) (strip_length a.settings.look) (fetch-of (unstored c).before.before.before.before).fetch.new.strip a.strip.now c.strip_length.ensures (omega (arith, ap (λ (x : List ℕ). length x) f, fetched-long (unstored c).before.before.before.before)) (strip_long a.settings a.image.now a.font.now a.strip.now a.frame.now i.requires) (λ k h. ap (λ (x : List ℕ). get_or x k 0) f ∙ fetched_byte_lem a.settings a.image.now a.font.now a.strip.now a.frame.now i.requires room (long a.settings) k h) c.store.ensures in
-    shown_stored a.settings a.image.now a.font.now a.strip.now a.frame.now i.requires room (long a.settings) f d.draw-answer.ensures.0 d.draw-answer.ensures.1
-    (sym e.number.ensures ∙ e.if-number-ne0.false) kept
+    shown_stored a.settings a.image.now a.font.now a.strip.now a.frame.now i.requires room (long a.settings) f c.draw-answer.ensures.0 c.draw-answer.ensures.1
+    (sym c.number.ensures ∙ c.if-number-ne0.false) kept
 
 pub render_spec : {M : Type 1} → statement M
 render_spec =

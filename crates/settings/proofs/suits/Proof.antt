@@ -18,8 +18,7 @@ full_size-requires c κs = search rules
 returns : tie.Need-returns
 unfolding suited
 returns c =
-    let b = c in
-    rw (b.bank_bit-bank.ensures, one_shifted b.args.settings, c.full_size.ensures)
+    rw (c.bank_bit-bank.ensures, one_shifted c.args.settings, c.full_size.ensures)
 
 pub suits_spec : {M : Type 1} → statement M
 suits_spec = tie.close (tie.spec bank_bit-bank-requires overflow_shl-bank full_size-requires returns)

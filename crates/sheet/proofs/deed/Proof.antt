@@ -40,7 +40,6 @@ slice_bounds-result-end c = omega (arith, inside c)
 returns-then-found : tie.Need-returns-then-found
 returns-then-found c =
     let s = c.args.sheet.now in
-    let k = c in
     let g = found c.before in
     part_move 5 (5 + c.survey-found.result.deed - 5) (deed_from s) (length (fields_in s).deed) (deed_at s g.is_got_lem) (sym g.deed ∙ omega arith) (record { bytes = refl; block = refl; offset = refl })
 

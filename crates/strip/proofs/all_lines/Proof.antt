@@ -12,9 +12,8 @@ one_stretch-requires c κs = search rules
 
 stretches-requires : tie.Need-stretches-requires
 stretches-requires c κs =
-    let p = c in
     let b = start_of c.before.before in
-    (b.requires.0, b.requires.1, b.requires.2, sym p.one_stretch.ensures ∙ c.if-one_stretch.true)
+    (b.requires.0, b.requires.1, b.requires.2, sym c.one_stretch.ensures ∙ c.if-one_stretch.true)
 
 shape_of-strip-then-one_stretch : tie.Need-shape_of-strip-then-one_stretch
 shape_of-strip-then-one_stretch c = search rules
@@ -24,9 +23,8 @@ returns-then-one_stretch c = search rules
 
 runs-requires : tie.Need-runs-requires
 runs-requires c κs =
-    let p = c in
     let b = start_of c.before.before in
-    (b.requires.0, b.requires.1, b.requires.2, sym p.one_stretch.ensures ∙ c.if-one_stretch.false)
+    (b.requires.0, b.requires.1, b.requires.2, sym c.one_stretch.ensures ∙ c.if-one_stretch.false)
 
 shape_of-strip : tie.Need-shape_of-strip
 shape_of-strip c = search rules

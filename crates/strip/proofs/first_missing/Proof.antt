@@ -52,9 +52,8 @@ lacks-requires c κs = search rules
 
 returns-then-not-lacks : tie.Need-returns-then-not-lacks
 returns-then-not-lacks c =
-    let b = c in
     let a = (args_of c.before).args in
-    (start_of c.before).strip_length-total.ensures ∙ none_missing a.settings a.size (sym b.lacks.ensures ∙ c.if-not-lacks.true)
+    (start_of c.before).strip_length-total.ensures ∙ none_missing a.settings a.size (sym c.lacks.ensures ∙ c.if-not-lacks.true)
 
 lacks-requires-2 : tie.Need-lacks-requires-2
 lacks-requires-2 c κs = search rules
@@ -75,14 +74,12 @@ overflow_mul-first c = rw (first_is c) (omega (arith, first_small (args_of (else
 
 returns-then-first-total : tie.Need-returns-then-first-total
 returns-then-first-total c =
-    let r = c in
     let b = (else-of c.before).before in
     let a = (args_of b).args in
     first_is c.before ∙ found a.settings a.size (last-lacks (else-of c.before)) (start_has c.before) (omega (arith, first_is c.before, (start_of b).strip_length-total.ensures, c.if-first-total.true))
 
 returns-else-first-total : tie.Need-returns-else-first-total
 returns-else-first-total c =
-    let r = c in
     let b = (else-of c.before).before in
     let a = (args_of b).args in
     (start_of b).strip_length-total.ensures ∙ not_found a.settings a.size (last-lacks (else-of c.before)) (start_has c.before) (omega (arith, first_is c.before, (start_of b).strip_length-total.ensures, c.if-first-total.false))

@@ -34,17 +34,10 @@ not_fitted_at-requires c κs = search rules
 
 returns : tie.Need-returns
 returns c =
-    let missing = c in
-    let short = c in
-    let suited = c in
-    let long = c in
-    let fast = c in
-    let pins = c in
-    let wide = c in
-    let a = wide.args in
+    let a = c.args in
     let d = done (strip_length a.settings.look) in
     let e : told_of c.not_fitted_at.result ≡ after_each (fetch_order a.settings a.image a.strip) d =
-    next _ (rw missing.first_missing.ensures at c.not_fitted_at.ensures) (next _ short.short_strip-answer.ensures (next _ suited.not_suited-answer.ensures (next _ long.image_length-answer.ensures (next _ fast.fast_rate-answer.ensures (next _ pins.pins_above-answer.ensures (ap done wide.strip_length.ensures)))))) in
+    next _ (rw c.first_missing.ensures at c.not_fitted_at.ensures) (next _ c.short_strip-answer.ensures (next _ c.not_suited-answer.ensures (next _ c.image_length-answer.ensures (next _ c.fast_rate-answer.ensures (next _ c.pins_above-answer.ensures (ap done c.strip_length.ensures)))))) in
     e ∙ in_order d refl (fetch_order a.settings a.image a.strip) tt
 
 pub length_answer_spec : {M : Type 1} → statement M

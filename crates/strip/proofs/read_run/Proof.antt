@@ -15,8 +15,7 @@ shape_of-strip c = search rules
 
 returns : tie.Need-returns
 returns c =
-    let p = c in
-    (refl, by (λ k h l. p.run_at-run.ensures.is (k - p.args.at) zero-le (omega arith)) c.put_run.ensures)
+    (refl, by (λ k h l. c.run_at-run.ensures.is (k - c.args.at) zero-le (omega arith)) c.put_run.ensures)
 
 pub read_run_spec : {M : Type 1} → statement M
 read_run_spec = tie.close (tie.spec run_at-run-requires put_run-requires shape_of-strip returns)

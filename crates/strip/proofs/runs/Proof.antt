@@ -39,7 +39,8 @@ start-counter-requires : tie.Need-start-counter-requires invariant-loop decrease
 start-counter-requires c κs = search rules
 
 loop-touched-init : tie.Need-loop-touched-init invariant-loop decreases-loop
-loop-touched-init c = let b = c in first_run b.args.settings b.requires.3 b.args.image.now c.start-counter.ensures
+loop-touched-init c =
+    first_run c.args.settings c.requires.3 c.args.image.now c.start-counter.ensures
 
 overflow_mul-t-8 : tie.Need-overflow_mul-t-8 invariant-loop decreases-loop
 overflow_mul-t-8 c = search rules
@@ -49,32 +50,30 @@ place-from-requires c κs = ((start_of c.before).requires.0, fitted c)
 
 read_run-touched-requires : tie.Need-read_run-touched-requires invariant-loop decreases-loop
 read_run-touched-requires c κs =
-    let t = c in
     let b = start_of c.before.before.before in
     let s = b.args.settings in
-    let l = t.loop-touched.invariant in
-    let low = run_room s b.requires.3 t.loop-touched.touched l.whole in (
-      rw c.place-from.ensures (run_within s _ b.requires.0 t.loop-touched.counter.address 16 (rw l.here low) (fitted c.before.before)),
+    let l = c.loop-touched.invariant in
+    let low = run_room s b.requires.3 c.loop-touched.touched l.whole in (
+      rw c.place-from.ensures (run_within s _ b.requires.0 c.loop-touched.counter.address 16 (rw l.here low) (fitted c.before.before)),
       omega (arith, run-left c.before.before, room c.before.before.before, l.stored.long),
     )
 
 overflow_add-touched : tie.Need-overflow_add-touched invariant-loop decreases-loop
-overflow_add-touched c = let r = c in omega (arith, r.read_run-touched.ensures.0, run-left c.before.before.before.before.before)
+overflow_add-touched c =
+    omega (arith, c.read_run-touched.ensures.0, run-left c.before.before.before.before.before)
 
 carry-counter-requires : tie.Need-carry-counter-requires invariant-loop decreases-loop
 carry-counter-requires c κs = search rules
 
 loop-touched-smaller : tie.Need-loop-touched-smaller invariant-loop decreases-loop
-loop-touched-smaller c = let r = c in omega (arith, r.read_run-touched.ensures.0, run-left c.before.before.before.before.before.before)
+loop-touched-smaller c =
+    omega (arith, c.read_run-touched.ensures.0, run-left c.before.before.before.before.before.before)
 
 loop-touched-preserved : tie.Need-loop-touched-preserved invariant-loop decreases-loop
 loop-touched-preserved c =
-    let r = c in
-    let p = c in
-    let t = c in
     let b = start_of c.before.before.before.before.before.before.before in
-    next_run b.args.settings b.requires.3 b.args.image.now t.loop-touched.invariant t.loop-touched-test.true p.place-from.ensures r.read_run-touched.ensures.1 c.carry-counter.ensures
-    (ap (λ (n : ℕ). t.loop-touched.touched + n) r.read_run-touched.ensures.0)
+    next_run b.args.settings b.requires.3 b.args.image.now c.loop-touched.invariant c.loop-touched-test.true c.place-from.ensures c.read_run-touched.ensures.1 c.carry-counter.ensures
+    (ap (λ (n : ℕ). c.loop-touched.touched + n) c.read_run-touched.ensures.0)
 
 shape_of-strip : tie.Need-shape_of-strip invariant-loop decreases-loop
 shape_of-strip c = c.loop-touched.invariant.stored.long

@@ -62,8 +62,7 @@ start-start-requires c κs = search rules
 
 loop-n-init : tie.Need-loop-n-init invariant-loop decreases-loop
 loop-n-init c =
-    let b = c in
-    first_stretch b.args.settings b.requires.3 b.args.image.now c.start-start.ensures
+    first_stretch c.args.settings c.requires.3 c.args.image.now c.start-start.ensures
 
 place-from-requires : tie.Need-place-from-requires invariant-loop decreases-loop
 place-from-requires c κs = ((start_of c.before).requires.0, fitted c)
@@ -73,12 +72,11 @@ overflow_mul-n c = omega (arith, fits c.before.before)
 
 read_line-touched-requires : tie.Need-read_line-touched-requires invariant-loop decreases-loop
 read_line-touched-requires c κs =
-    let t = c in
     let b = start_of c.before.before.before in
     let s = b.args.settings in
-    let l = t.loop-n.invariant in
-    let room = subst (λ (a : ℕ). a % 32 + width s.look ≤ 32) (sym l.here) (stretch_room s b.requires.3 t.loop-n.n) in
-    let inside = run_within s _ b.requires.0 t.loop-n.address (width s.look) room (fitted c.before.before) in (
+    let l = c.loop-n.invariant in
+    let room = subst (λ (a : ℕ). a % 32 + width s.look ≤ 32) (sym l.here) (stretch_room s b.requires.3 c.loop-n.n) in
+    let inside = run_within s _ b.requires.0 c.loop-n.address (width s.look) room (fitted c.before.before) in (
       omega (arith, inside, c.place-from.ensures, (wide_of c.before.before.before).width-wide.ensures),
       omega (arith, fits c.before.before, l.stored.long),
       runs c.before.before.before,
@@ -93,9 +91,7 @@ read-so-far c =
 
 overflow_add-touched : tie.Need-overflow_add-touched invariant-loop decreases-loop
 overflow_add-touched c =
-    let r = c in
-    let t = c in
-    omega (arith, r.read_line-touched.ensures.0, read-so-far c.before.before.before.before.before, (wide_of c.before.before.before.before.before.before).width-wide.ensures, width_le (start_of c.before.before.before.before.before.before).args.settings.look)
+    omega (arith, c.read_line-touched.ensures.0, read-so-far c.before.before.before.before.before, (wide_of c.before.before.before.before.before.before).width-wide.ensures, width_le (start_of c.before.before.before.before.before.before).args.settings.look)
 
 -- where the others are made from
 abbrev turn-of : tie.After-repeat_line-arg-1 invariant-loop decreases-loop → tie.In-loop-n invariant-loop decreases-loop

@@ -29,7 +29,8 @@ fits c =
     bank_within (a.args.side * a.args.side) c.loop-base.base c.loop-base.invariant.1 a.requires.1.0 c.loop-base-test.true
 
 overflow_mul-size : tie.Need-overflow_mul-size invariant-loop decreases-loop
-overflow_mul-size c = let a = c in omega (arith, mul-le-mul_right a.args.side a.requires.0.0, a.requires.0.0)
+overflow_mul-size c =
+    omega (arith, mul-le-mul_right c.args.side c.requires.0.0, c.requires.0.0)
 
 loop-base-init : tie.Need-loop-base-init invariant-loop decreases-loop
 loop-base-init c = let some = c.requires.0.2 in (omega arith, mod-eq_of_lt (mul-pos some some), none _ _ _)

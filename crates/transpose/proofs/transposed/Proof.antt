@@ -50,12 +50,11 @@ shape_of-room c = search rules
 
 returns-2 : tie.Need-returns
 returns-2 c =
-    let b = c in
     let a = (start_of c.before.before.before.before.before).args in
     let n = length a.lent.now in
     let side = side_is a.k n (suits c.before.before.before.before).0 in
     let f = subst (λ (s : ℕ). Filled (transposed_byte s a.lent.now) 0 n a.room.now c.banks.new.room) side c.banks.ensures in
-    (b.chip_answer-answer.ensures, filled_written (suits c.before.before.before.before).1 f ∙ sym (room_done a.k a.lent.now a.room.now (passed c.before.before.before.before)))
+    (c.chip_answer-answer.ensures, filled_written (suits c.before.before.before.before).1 f ∙ sym (room_done a.k a.lent.now a.room.now (passed c.before.before.before.before)))
 
 pub transposed_spec : {M : Type 1} → statement M
 transposed_spec =

@@ -45,24 +45,21 @@ some_high-requires c κs = search rules
 
 returns-then-not-some_high : tie.Need-returns-then-not-some_high
 returns-then-not-some_high c =
-    let l = c in
     let a = (start_of c.before.before.before).args in
-    l.strip_length-total.ensures ∙ none_high a.look a.strip.now (rw (as-far c.before.before) at (c.some_high.ensures (c.if-not-some_high.true)))
+    c.strip_length-total.ensures ∙ none_high a.look a.strip.now (rw (as-far c.before.before) at (c.some_high.ensures (c.if-not-some_high.true)))
 
 search-k-requires : tie.Need-search-k-requires
 search-k-requires c κs = search rules
 
 returns-then-k-n : tie.Need-returns-then-k-n
 returns-then-k-n c =
-    let l = c in
     let a = (start_of c.before.before.before.before.before).args in
     found c.before ∙ found_there a.look a.strip.now (is-external c.before.before.before.before.before) (rw (found c.before, as-far c.before.before.before.before) at c.if-k-n.true)
 
 returns-else-k-n : tie.Need-returns-else-k-n
 returns-else-k-n c =
-    let l = c in
     let a = (start_of c.before.before.before.before.before).args in
-    l.strip_length-total.ensures ∙ found_none a.look a.strip.now (rw (found c.before, as-far c.before.before.before.before) at c.if-k-n.false)
+    c.strip_length-total.ensures ∙ found_none a.look a.strip.now (rw (found c.before, as-far c.before.before.before.before) at c.if-k-n.false)
 
 pub first_not_valid_spec : {M : Type 1} → statement M
 first_not_valid_spec =

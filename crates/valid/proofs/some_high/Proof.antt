@@ -30,8 +30,7 @@ loop-k-smaller c = omega arith
 
 loop-k-preserved : tie.Need-loop-k-preserved invariant-loop decreases-loop
 loop-k-preserved c =
-    let l = c in
-    (omega arith, λ h. let e = neither l.loop-k.found _ h in below_more _ _ (l.loop-k.invariant.1 e.0) e.1)
+    (omega arith, λ h. let e = neither c.loop-k.found _ h in below_more _ _ (c.loop-k.invariant.1 e.0) e.1)
 
 returns : tie.Need-returns invariant-loop decreases-loop
 returns c = λ h j m. c.loop-k.invariant.1 h j (omega arith)

@@ -76,7 +76,6 @@ returns-then-y-times_y c = simp (x-done c.before.before.before, ne_eqb _ _ c.if-
 returns-4 : tie.Need-returns
 unfolding carry fall
 returns-4 c =
-    let p = c in
     simp (
       x-done c.before.before.before,
       ne_eqb _ _ c.if-run-eq0.false,

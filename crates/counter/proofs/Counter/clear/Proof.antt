@@ -34,12 +34,12 @@ fall-requires c κs = search rules
 returns-then-clearing_counts-drops : tie.Need-returns-then-clearing_counts-drops
 unfolding clear
 returns-then-clearing_counts-drops c =
-    let p = c in
     simp (test-is c.before.before c.if-clearing_counts-drops.true) (c.fall.ensures ∙ ap (fall (settings c.before.before)) (cleared-of c.before.before).cleared-cleared.ensures)
 
 returns-2 : tie.Need-returns
 unfolding clear
-returns-2 c = let p = c in simp (test-is c.before c.if-clearing_counts-drops.false) (cleared-of c.before).cleared-cleared.ensures
+returns-2 c =
+    simp (test-is c.before c.if-clearing_counts-drops.false) (cleared-of c.before).cleared-cleared.ensures
 
 pub clear_spec : {M : Type 1} → statement M
 clear_spec =

@@ -32,10 +32,9 @@ shape_of-frame-then-width-eq32 c = search rules
 
 returns-then-width-eq32 : tie.Need-returns-then-width-eq32
 returns-then-width-eq32 c =
-    let w = c in
     let s = start_of c.before.before.before.before.before.before in
-    let n : width s.args.look ≡ 32 = sym w.width.ensures ∙ c.if-width-eq32.true in
-    by (λ k _ _. plotted_graphic s.args.look s.requires.0 1 (inl refl) (ap (λ (m : ℕ). 256 / m) n) s.args.strip.now _ _ w.shades.ensures (λ j. (w.shared_slice_known-1.given j).fits) k)
+    let n : width s.args.look ≡ 32 = sym c.width.ensures ∙ c.if-width-eq32.true in
+    by (λ k _ _. plotted_graphic s.args.look s.requires.0 1 (inl refl) (ap (λ (m : ℕ). 256 / m) n) s.args.strip.now _ _ c.shades.ensures (λ j. (c.shared_slice_known-1.given j).fits) k)
     c.plot_lines.ensures
 
 shape_of-frame-else-width-eq32 : tie.Need-shape_of-frame-else-width-eq32
@@ -43,10 +42,9 @@ shape_of-frame-else-width-eq32 c = search rules
 
 returns-else-width-eq32 : tie.Need-returns-else-width-eq32
 returns-else-width-eq32 c =
-    let w = c in
     let s = start_of c.before.before.before.before.before.before in
-    let n : width s.args.look ≡ 16 = ⊎_elim (λ e. e) (λ e. absurd (c.if-width-eq32.false (w.width.ensures ∙ e))) (width_cases s.args.look) in
-    by (λ k _ _. plotted_graphic s.args.look s.requires.0 2 (inr refl) (ap (λ (m : ℕ). 256 / m) n) s.args.strip.now _ _ w.shades.ensures (λ j. (w.shared_slice_known-1.given j).fits) k)
+    let n : width s.args.look ≡ 16 = ⊎_elim (λ e. e) (λ e. absurd (c.if-width-eq32.false (c.width.ensures ∙ e))) (width_cases s.args.look) in
+    by (λ k _ _. plotted_graphic s.args.look s.requires.0 2 (inr refl) (ap (λ (m : ℕ). 256 / m) n) s.args.strip.now _ _ c.shades.ensures (λ j. (c.shared_slice_known-1.given j).fits) k)
     c.plot_lines-else-width-eq32.ensures
 
 pub plot_spec : {M : Type 1} → statement M

@@ -71,24 +71,20 @@ loop-c-smaller : tie.Need-loop-c-smaller invariant-loop decreases-loop
 loop-c-smaller c = omega arith
 
 loop-c-preserved : tie.Need-loop-c-preserved invariant-loop decreases-loop
-loop-c-preserved c =
-    let l = c in
-    let s = c in
-    let w = c in (
-      omega arith,
-      upto (cell_end s.requires.0 s.args.n l.loop-c.c)
-          (join (omega arith) (omega arith) l.loop-c.invariant.1
-          (by (cell s.requires.0 s.args.table.now s.args.strip.now s.args.n l.loop-c.c w.wide.result w.wide.ensures.0) c.copy.ensures)),
-    )
+loop-c-preserved c = (
+  omega arith,
+  upto (cell_end c.requires.0 c.args.n c.loop-c.c)
+      (join (omega arith) (omega arith) c.loop-c.invariant.1
+      (by (cell c.requires.0 c.args.table.now c.args.strip.now c.args.n c.loop-c.c c.wide.result c.wide.ensures.0) c.copy.ensures)),
+)
 
 shape_of-frame : tie.Need-shape_of-frame invariant-loop decreases-loop
 shape_of-frame c = c.loop-c.invariant.1.long
 
 returns : tie.Need-returns invariant-loop decreases-loop
 returns c =
-    let s = c in
-    let e : c.loop-c.c ≡ 32 / s.args.stretch = omega arith in
-    upto (ap (λ (j : ℕ). s.args.n * 256 + j * (8 * s.args.stretch)) e ∙ line_end s.requires.0 s.args.n) c.loop-c.invariant.1
+    let e : c.loop-c.c ≡ 32 / c.args.stretch = omega arith in
+    upto (ap (λ (j : ℕ). c.args.n * 256 + j * (8 * c.args.stretch)) e ∙ line_end c.requires.0 c.args.n) c.loop-c.invariant.1
 
 pub plot_line_spec : {M : Type 1} → statement M
 plot_line_spec =

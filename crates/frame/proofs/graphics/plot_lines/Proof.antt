@@ -17,7 +17,8 @@ loop-n-init : tie.Need-loop-n-init invariant-loop decreases-loop
 loop-n-init c = (omega arith, none _ _ _)
 
 plot_line-requires : tie.Need-plot_line-requires invariant-loop decreases-loop
-plot_line-requires c κs = let s = c in (s.requires.0, omega arith, s.requires.1, omega (arith, c.loop-n.invariant.1.long))
+plot_line-requires c κs =
+    (c.requires.0, omega arith, c.requires.1, omega (arith, c.loop-n.invariant.1.long))
 
 overflow_add-n : tie.Need-overflow_add-n invariant-loop decreases-loop
 overflow_add-n c = omega arith

@@ -24,11 +24,13 @@ by_pairs-requires c κs = search rules
 
 returns-then-gm-eq1 : tie.Need-returns-then-gm-eq1
 unfolding shade
-returns-then-gm-eq1 c = let g = c in by (λ k _ _. simp (eq-eqb _ _ (rw (g.gm.ensures, gm_low _) at c.if-gm-eq1.true), g.css-colour.ensures)) c.by_bits.ensures
+returns-then-gm-eq1 c =
+    by (λ k _ _. simp (eq-eqb _ _ (rw (c.gm.ensures, gm_low _) at c.if-gm-eq1.true), c.css-colour.ensures)) c.by_bits.ensures
 
 returns-else-gm-eq1 : tie.Need-returns-else-gm-eq1
 unfolding shade
-returns-else-gm-eq1 c = let g = c in by (λ k _ _. simp (ne_eqb _ _ (rw (g.gm.ensures, gm_low _) at c.if-gm-eq1.false), g.css-colour.ensures)) c.by_pairs.ensures
+returns-else-gm-eq1 c =
+    by (λ k _ _. simp (ne_eqb _ _ (rw (c.gm.ensures, gm_low _) at c.if-gm-eq1.false), c.css-colour.ensures)) c.by_pairs.ensures
 
 pub shades_spec : {M : Type 1} → statement M
 shades_spec =

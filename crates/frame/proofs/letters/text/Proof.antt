@@ -29,7 +29,8 @@ loop-line-init : tie.Need-loop-line-init invariant-loop decreases-loop
 loop-line-init c = (omega arith, none _ _ _)
 
 text_line-requires : tie.Need-text_line-requires invariant-loop decreases-loop
-text_line-requires c κs = let l = c in ((omega arith, (start_of c.before.before.before.before.before).requires.2, omega (arith, l.loop-line.invariant.1.long)), λ j h. l.by_bits.ensures.is j zero-le h)
+text_line-requires c κs =
+    ((omega arith, (start_of c.before.before.before.before.before).requires.2, omega (arith, c.loop-line.invariant.1.long)), λ j h. c.by_bits.ensures.is j zero-le h)
 
 overflow_add-line : tie.Need-overflow_add-line invariant-loop decreases-loop
 overflow_add-line c = omega arith
@@ -45,9 +46,8 @@ shape_of-frame c = c.loop-line.invariant.1.long
 
 returns : tie.Need-returns invariant-loop decreases-loop
 returns c =
-    let g = c in
     let s = start_of c.before.before in
-    by (λ k _ _. typed_picture s.args.look _ s.args.strip.now s.args.font.now _ s.requires.0 g.glyphs.ensures (λ j. (g.shared_slice_known-2-1.given j).fits) k)
+    by (λ k _ _. typed_picture s.args.look _ s.args.strip.now s.args.font.now _ s.requires.0 c.glyphs.ensures (λ j. (c.shared_slice_known-2-1.given j).fits) k)
     (upto (omega arith) c.loop-line.invariant.1)
 
 pub text_spec : {M : Type 1} → statement M

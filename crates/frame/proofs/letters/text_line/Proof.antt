@@ -68,14 +68,12 @@ loop-c-smaller c = omega arith
 
 loop-c-preserved : tie.Need-loop-c-preserved invariant-loop decreases-loop
 loop-c-preserved c =
-    let i = c in
     let l = turn c.before.before.before.before in
-    let s = l.before.before.before in
-    let w = c in (
+    let s = l.before.before.before in (
       omega arith,
       upto (omega arith)
           (join {n = s.args.n * 256 + l.loop-c.c * 8 + 8} (omega arith) (omega arith) l.loop-c.invariant.1
-          (by (typed_cell s.args.look s.args.glyphs.now s.args.strip.now s.args.n l.loop-c.c i.ink.result _ (omega arith) i.ink.ensures.0 (ap (λ (j : ℕ). get_or s.args.glyphs.now (j * 12 + s.args.n % 12) 0) w.wide.ensures.0)) c.tint.ensures)),
+          (by (typed_cell s.args.look s.args.glyphs.now s.args.strip.now s.args.n l.loop-c.c c.ink.result _ (omega arith) c.ink.ensures.0 (ap (λ (j : ℕ). get_or s.args.glyphs.now (j * 12 + s.args.n % 12) 0) c.wide.ensures.0)) c.tint.ensures)),
     )
 
 shape_of-frame : tie.Need-shape_of-frame invariant-loop decreases-loop

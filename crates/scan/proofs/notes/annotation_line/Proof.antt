@@ -33,15 +33,13 @@ is_free-requires c κs = search rules
 
 overflow_sub-result : tie.Need-overflow_sub-result
 overflow_sub-result c =
-    let p = c in
-    let k = p.closed_run-key in
-    (key_read (line c.before.before.before) k.result k.ensures.0 (not-false _ p.if-not-key.false)).some
+    let k = c.closed_run-key in
+    (key_read (line c.before.before.before) k.result k.ensures.0 (not-false _ c.if-not-key.false)).some
 
 returns-then-not-is_free : tie.Need-returns-then-not-is_free
 returns-then-not-is_free c =
-    let p = c in
-    let k = p.closed_run-key in
-    (key_taken (line c.before.before.before) k.result k.ensures.0 (not-false _ p.if-not-key.false) (sym c.is_free.ensures ∙ c.if-not-is_free.true), omega (arith, k.ensures.1))
+    let k = c.closed_run-key in
+    (key_taken (line c.before.before.before) k.result k.ensures.0 (not-false _ c.if-not-key.false) (sym c.is_free.ensures ∙ c.if-not-is_free.true), omega (arith, k.ensures.1))
 
 overflow_add-at : tie.Need-overflow_add-at
 overflow_add-at c = search rules
@@ -54,13 +52,11 @@ overflow_add-result c = search rules
 
 returns-3 : tie.Need-returns
 returns-3 c =
-    let q = c in
-    let p = c in
-    let a = p.args in
-    let k = p.closed_run-key in
+    let a = c.args in
+    let k = c.closed_run-key in
     let v = c.closed_run-value in
     let e = v.ensures.0 ∙ ap (λ (x : List ℕ). step_of (read_closed value_byte 0 120 10 x)) (sym (drop-drop k.result.size a.at a.s.now)) in
-    (key_free_lem (line c.before.before.before.before.before.before) k.result k.ensures.0 (not-false _ p.if-not-key.false) (sym q.is_free.ensures ∙ q.if-not-is_free.false) v.result e, omega (arith, v.ensures.1))
+    (key_free_lem (line c.before.before.before.before.before.before) k.result k.ensures.0 (not-false _ c.if-not-key.false) (sym c.is_free.ensures ∙ c.if-not-is_free.false) v.result e, omega (arith, v.ensures.1))
 
 pub annotation_line_spec : {M : Type 1} → statement M
 annotation_line_spec =

@@ -57,9 +57,8 @@ overflow_add-result c = omega (arith, c.annotation_line-line.ensures.1)
 
 returns-then-not-line : tie.Need-returns-then-not-line invariant-loop decreases-loop
 returns-then-not-line c =
-    let t = c in
-    let a = t.args in
-    let l = t.loop-at in
+    let a = c.args in
+    let l = c.loop-at in
     let r = c.annotation_line-line in
     (lines_stuck (read_annotations (drop a.from a.s.now)) (read_up_to read_annotation (200 - l.many) (drop l.at a.s.now)) l.many (l.at - a.from) l.invariant.3 r.result.size (up_to_stuck read_annotation a.s.now l.at (200 - l.many) r.result.size (omega arith) (omega arith) (not_whole (read_annotation (drop l.at a.s.now)) r.result r.ensures.0 (not-true _ c.if-not-line.true))), omega (arith, r.ensures.1))
 

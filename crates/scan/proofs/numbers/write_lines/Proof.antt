@@ -48,9 +48,8 @@ overflow_add-result c = omega (arith, c.keyed_line-line.ensures.1)
 
 returns-then-not-line : tie.Need-returns-then-not-line invariant-loop decreases-loop
 returns-then-not-line c =
-    let t = c in
-    let a = t.args in
-    let l = t.loop-i in
+    let a = c.args in
+    let l = c.loop-i in
     let r = c.keyed_line-line in
     (filled_stuck l.out l.i (l.at - a.from) (read_times read_at a.count (drop a.from a.s.now)) (read_times read_at (a.count - l.i) (drop l.at a.s.now)) l.invariant.3 r.result.size (times_stuck read_at a.s.now l.at (a.count - l.i) r.result.size (omega arith) (hex_stuck (at_word ++ eq) 4 a.s.now l.at r.result r.ensures.0 (not-true _ c.if-not-line.true))), omega (arith, r.ensures.1))
 

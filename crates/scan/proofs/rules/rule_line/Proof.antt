@@ -35,24 +35,22 @@ overflow_add-at c = search rules
 
 bounds-s-at : tie.Need-bounds-s-at
 bounds-s-at c =
-    let e = c in
     let k = begun c.before.before in
     let a = k.before.before.before.before.args in
     let n = k.before.common_bytes in
-    let r = e.keyed_line-line in
-    omega (arith, (whole_field a.s.now a.at n.result n.ensures.0 k.if-common_bytes-eq0.false r.result r.ensures.0 (not-false _ e.if-not-line.false)).long, r.ensures.1)
+    let r = c.keyed_line-line in
+    omega (arith, (whole_field a.s.now a.at n.result n.ensures.0 k.if-common_bytes-eq0.false r.result r.ensures.0 (not-false _ c.if-not-line.false)).long, r.ensures.1)
 
 rule_of-rule-requires : tie.Need-rule_of-rule-requires
 rule_of-rule-requires c κs = search rules
 
 returns-3 : tie.Need-returns
 returns-3 c =
-    let e = c in
     let k = begun c.before.before.before in
     let a = k.before.before.before.before.args in
     let n = k.before.common_bytes in
-    let r = e.keyed_line-line in
-    (whole_line a.s.now a.at n.result n.ensures.0 k.if-common_bytes-eq0.false r.result r.ensures.0 (not-false _ e.if-not-line.false) c.rule_of-rule.result c.rule_of-rule.ensures, r.ensures.1)
+    let r = c.keyed_line-line in
+    (whole_line a.s.now a.at n.result n.ensures.0 k.if-common_bytes-eq0.false r.result r.ensures.0 (not-false _ c.if-not-line.false) c.rule_of-rule.result c.rule_of-rule.ensures, r.ensures.1)
 
 pub rule_line_spec : {M : Type 1} → statement M
 rule_line_spec =

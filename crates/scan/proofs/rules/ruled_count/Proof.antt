@@ -30,24 +30,22 @@ overflow_add-result c = search rules
 
 returns-then-not-count : tie.Need-returns-then-not-count
 returns-then-not-count c =
-    let p = c in
     let e = ruled c.before.before.before in
     let a = e.before.before.before.before.args in
     let r = e.before.before.rule_line-line in
-    let n = p.count_line-count in
-    (no_count a.s.now a.at r.result r.ensures.0 (not-false _ e.if-not-line.false) n.result n.ensures.0 (not-true _ p.if-not-count.true), omega (arith, n.ensures.1))
+    let n = c.count_line-count in
+    (no_count a.s.now a.at r.result r.ensures.0 (not-false _ e.if-not-line.false) n.result n.ensures.0 (not-true _ c.if-not-count.true), omega (arith, n.ensures.1))
 
 overflow_add-result-2 : tie.Need-overflow_add-result-2
 overflow_add-result-2 c = search rules
 
 returns-3 : tie.Need-returns
 returns-3 c =
-    let p = c in
     let e = ruled c.before.before.before in
     let a = e.before.before.before.before.args in
     let r = e.before.before.rule_line-line in
-    let n = p.count_line-count in
-    (both_whole a.s.now a.at r.result r.ensures.0 (not-false _ e.if-not-line.false) n.result n.ensures.0 (not-false _ p.if-not-count.false), omega (arith, n.ensures.1))
+    let n = c.count_line-count in
+    (both_whole a.s.now a.at r.result r.ensures.0 (not-false _ e.if-not-line.false) n.result n.ensures.0 (not-false _ c.if-not-count.false), omega (arith, n.ensures.1))
 
 pub ruled_count_spec : {M : Type 1} → statement M
 ruled_count_spec =
