@@ -3,10 +3,10 @@
 use Prim.Native.Nat.{ℕ, ◌%◌, ◌<◌}
 use mathlib.Core.Path.{◌≡◌, refl, sym, ap, ◌∙◌}
 use mathlib.Core.Bool.{Bool, true}
-use mathlib.Core.List.{List, [], ◌∷◌, map}
+use mathlib.Core.List.{List, [], ◌∷◌}
 use native.Mathlib.Omega.{arith}
 use contract.Lifetimes.{Lfts}
-use lib.Dec.{eqb, ltb}
+use lib.Dec.{eqb}
 use Rattle.promises.specs.Choose.{choose}
 use Rattle.promises.proofs.Tables.{Each}
 use Rattle.answer.specs.declared.Answer.{Answer}
@@ -15,53 +15,12 @@ use Rattle.settings.specs.declared.Look.{Look}
 use Rattle.settings.specs.declared.Rule.{Rule}
 use Rattle.settings.specs.declared.Rule.TheVariants.{One}
 use Rattle.settings.specs.declared.Settings.{Settings}
-use Rattle.settings.specs.Fields.{look_of, settings_of, rule_number, bits, video_mode, offset, memory, graphics, gm, css}
+use Rattle.settings.specs.Fields.{look_of, settings_of, bits, graphics}
 use Rattle.control.specs.Control.{with_bit}
+use Rattle.claims.proofs.Fields.{felt_look, felt, unfelt}
 use Rattle.claims.proofs.Calls.{Lent, Room, Touches, Fetches, Draws, Shows, ReadsBack}
 use Rattle.claims.proofs.Alikes.{SameLook, SameFetches, by_fields, same_fetched, same_count, same_shown, draw_told_alike, frame_after_alike, back_told_alike, strip_back_alike}
 use Rattle.claims.proofs.Alikes.{by_number, by_rule, by_bit, by_high, bits_below, bits_above}
-
--- What is felt of the pins, each as a number.
-abbrev pub felt_look : List (Look → ℕ)
-felt_look =
-    -- whether the pin byte is above 63
-    (λ (l : Look). choose (ltb 63 l.pins) 1 0)
-    -- A/G
-    ∷ (λ (l : Look). bits l.pins 5 1)
-    -- INT/EXT, while A/G is 0
-    ∷ (λ (l : Look). choose (graphics l) 0 (bits l.pins 4 1))
-    -- GM2-GM0
-    ∷ gm
-    -- CSS
-    ∷ css
-    ∷ []
-
--- What is felt of the settings.
-abbrev pub felt : List (Settings → ℕ)
-felt =
-    -- V2-V0
-    video_mode
-    -- F6-F0
-    ∷ offset
-    -- R1
-    ∷ (λ (s : Settings). bits s.word 12 1)
-    -- M1, M0
-    ∷ memory
-    -- the rule
-    ∷ (λ (s : Settings). rule_number s.rule)
-    -- and what is felt of the pins
-    ∷ map (λ (f : Look → ℕ) (s : Settings). f s.look) felt_look
-
--- What is not felt of the control word, by its bits.
-abbrev pub unfelt : List ℕ
-unfelt =
-    -- P
-    10
-    -- R0
-    ∷ 11
-    -- TY
-    ∷ 15
-    ∷ []
 
 -- each field of the list is the same in both
 abbrev pub Alike : {A : Type 0} → List (A → ℕ) → A → A → Type 0

@@ -6,6 +6,7 @@ pub mod Demand1
 pub mod Demand2
 pub mod Demand3
 pub mod Alikes
+pub mod Fields
 pub mod Felt
 pub mod Chips
 pub mod Plans
