@@ -2,13 +2,15 @@
 use mathlib.Core.Path.{refl, sym, ◌∙◌}
 use base.Logic.{emp, id⊢}
 use Rattle.promises.specs.Fixes.{Operation, Fixes, whole, one_tells}
-use Rattle.answer.proofs.Answers.{one_answer}
+use Rattle.answer.proofs.Answers.{one_answer, one_says}
 use Rattle.answer.proofs.number as number
 use Rattle.answer.specs.contracts.number as number_contract
 use Rattle.answer.proofs.place as place
 use Rattle.answer.specs.contracts.place as place_contract
 use Rattle.answer.proofs.value as value
 use Rattle.answer.specs.contracts.value as value_contract
+use Rattle.answer.proofs.refuse as refuse
+use Rattle.answer.specs.contracts.refuse as refuse_contract
 use Rattle.answer.proofs.check as check
 use Rattle.answer.specs.contracts.check as check_contract
 
@@ -40,6 +42,16 @@ value_fixes = record {
   takes_all = λ w κs a g. id⊢ w.𝓤 (emp w.𝓤);
   tells = λ w κs a g z e. one_tells w.𝓤 _;
   one_outcome = λ κs a z z' ws ws' p q. (p ∙ sym q, refl);
+}
+
+abbrev pub refuse_op : Operation
+refuse_op = record { key = refuse.Symbol.symbol; T = refuse_contract.ended; clauses = λ M 𝓤 𝓛. refuse_contract.clauses 𝓛; Says = refuse.Reads.Learnt; O = _; seen = λ κs. whole }
+
+pub refuse_fixes : Fixes refuse_op
+refuse_fixes = record {
+  takes_all = λ w κs a g. id⊢ w.𝓤 (emp w.𝓤);
+  tells = λ w κs a g z e. one_tells w.𝓤 _;
+  one_outcome = λ κs a z z' ws ws' p q. (one_says _ _ _ p q, refl);
 }
 
 abbrev pub check_op : Operation

@@ -3,11 +3,14 @@
 
 ghost use Rattle.std.specs.Prelude.{◌≡◌};
 ghost use Rattle.promises.specs.Order.{check, after};
-ghost use Rattle.answer.specs.Told.{unfit_number, later_number, spot_number, told_of};
+ghost use Rattle.answer.specs.Told.{told_by, told_of, Says};
 
-// Refusals by settings and lengths; none names a place.
+use std::fmt;
+
+// The refusals. Each holds what is told of it beside its number.
 #[derive(Clone, Copy)]
-pub enum Unfit {
+pub enum Refusal {
+    // By settings and lengths; none of these names a place.
     PinsAbove,
     TextBack,
     FastRate,
@@ -16,84 +19,90 @@ pub enum Unfit {
     FontLength,
     ShortStrip,
     ShortFrame,
-}
-
-// Refusals of operations added later that name no place.
-#[derive(Clone, Copy)]
-pub enum Later {
     OtherChip,
     ShortDestination,
     NoKey,
     WrongCanvas,
     ManyPlacements,
-}
-
-// Refusals that name a place.
-#[derive(Clone, Copy)]
-pub enum Spot {
     // The index of the first stray pixel.
-    Stray,
+    Stray(usize),
     // The length of the sheet's longest beginning that some accepted sheet has.
-    BrokenSheet,
+    BrokenSheet(usize),
     // The index of the first byte that differs from the picture that a file's pixels make.
-    NoPicture,
+    NoPicture(usize),
     // The strip index of the first byte that external text does not show.
-    NotValid,
+    NotValid(usize),
     // The strip index of the first fetch from a bank that is not fitted.
-    NotFitted,
+    NotFitted(usize),
     // The index of the first placement whose rectangle lies outside the frame or is empty.
-    OutsideFrame,
-}
-
-// Done with its value, or refused: each case holds what document 01 has told of it.
-#[derive(Clone, Copy)]
-pub enum Answer {
-    Done(usize),
-    Unfit(Unfit),
-    Later(Later),
-    At(Spot, usize),
+    OutsideFrame(usize),
     // The index of the first write elsewhere, and the word before the list.
     Elsewhere(usize, u16),
 }
 
-// The number of each refusal, for each of the three enums.
-fn unfit_number(u: Unfit) -> u8
-    ensures { result ≡ unfit_number u }
-{
-    match u {
-        Unfit::PinsAbove => 1,
-        Unfit::TextBack => 3,
-        Unfit::FastRate => 4,
-        Unfit::ImageLength => 5,
-        Unfit::NotSuited => 16,
-        Unfit::FontLength => 6,
-        Unfit::ShortStrip => 7,
-        Unfit::ShortFrame => 8,
+impl fmt::Display for Refusal {
+    // As the programs tell it.
+    fn fmt<W: fmt::Write>(&self, f: &mut fmt::Formatter<W>) -> fmt::Result {
+        write!(f, "status={}\nplace={}", self.number(), self.place())
     }
 }
 
-fn later_number(l: Later) -> u8
-    ensures { result ≡ later_number l }
-{
-    match l {
-        Later::OtherChip => 13,
-        Later::ShortDestination => 14,
-        Later::NoKey => 12,
-        Later::WrongCanvas => 18,
-        Later::ManyPlacements => 19,
-    }
-}
+// Done with its value, or refused.
+pub type Answer = Result<usize, Refusal>;
 
-fn spot_number(s: Spot) -> u8
-    ensures { result ≡ spot_number s }
-{
-    match s {
-        Spot::Stray => 9,
-        Spot::BrokenSheet => 11,
-        Spot::NoPicture => 28,
-        Spot::NotValid => 15,
-        Spot::NotFitted => 17,
-        Spot::OutsideFrame => 20,
+impl Refusal {
+    // The number that a clerk sees.
+    fn number(self) -> u8
+        ensures { result ≡ (told_by self).number }
+    {
+        match self {
+            Refusal::PinsAbove => 1,
+            Refusal::TextBack => 3,
+            Refusal::FastRate => 4,
+            Refusal::ImageLength => 5,
+            Refusal::NotSuited => 16,
+            Refusal::FontLength => 6,
+            Refusal::ShortStrip => 7,
+            Refusal::ShortFrame => 8,
+            Refusal::OtherChip => 13,
+            Refusal::ShortDestination => 14,
+            Refusal::NoKey => 12,
+            Refusal::WrongCanvas => 18,
+            Refusal::ManyPlacements => 19,
+            Refusal::Stray(_) => 9,
+            Refusal::BrokenSheet(_) => 11,
+            Refusal::NoPicture(_) => 28,
+            Refusal::NotValid(_) => 15,
+            Refusal::NotFitted(_) => 17,
+            Refusal::OutsideFrame(_) => 20,
+            Refusal::Elsewhere(_, _) => 10,
+        }
+    }
+
+    // The place of what is wrong, 0 where the documents name none.
+    fn place(self) -> usize
+        ensures { result ≡ (told_by self).place }
+    {
+        match self {
+            Refusal::Stray(place)
+            | Refusal::BrokenSheet(place)
+            | Refusal::NoPicture(place)
+            | Refusal::NotValid(place)
+            | Refusal::NotFitted(place)
+            | Refusal::OutsideFrame(place)
+            | Refusal::Elsewhere(place, _) => place,
+            _ => 0,
+        }
+    }
+
+    // The old word where control writes are refused, else 0.
+    fn value(self) -> usize
+        ensures { result ≡ (told_by self).value }
+    {
+        match self {
+            Refusal::Elsewhere(_, word) => usize::from(word),
+            _ => 0,
+        }
     }
 }
 
@@ -102,11 +111,8 @@ pub fn number(a: Answer) -> u8
     ensures { result ≡ (told_of a).number }
 {
     match a {
-        Answer::Done(_) => 0,
-        Answer::Unfit(u) => unfit_number(u),
-        Answer::Later(l) => later_number(l),
-        Answer::At(s, _) => spot_number(s),
-        Answer::Elsewhere(_, _) => 10,
+        Ok(_) => 0,
+        Err(refusal) => refusal.number(),
     }
 }
 
@@ -115,11 +121,8 @@ pub fn place(a: Answer) -> usize
     ensures { result ≡ (told_of a).place }
 {
     match a {
-        Answer::Done(_) => 0,
-        Answer::Unfit(_) => 0,
-        Answer::Later(_) => 0,
-        Answer::At(_, p) => p,
-        Answer::Elsewhere(p, _) => p,
+        Ok(_) => 0,
+        Err(refusal) => refusal.place(),
     }
 }
 
@@ -128,18 +131,23 @@ pub fn value(a: Answer) -> usize
     ensures { result ≡ (told_of a).value }
 {
     match a {
-        Answer::Done(v) => v,
-        Answer::Unfit(_) => 0,
-        Answer::Later(_) => 0,
-        Answer::At(_, _) => 0,
-        Answer::Elsewhere(_, word) => word as usize,
+        Ok(value) => value,
+        Err(refusal) => refusal.value(),
     }
 }
 
+// Refuses where a condition holds.
+pub fn refuse(when: bool, refusal: Refusal) -> Result<(), Refusal>
+    ensures { Says (check when (told_by refusal)) result }
+{
+    if when { Err(refusal) } else { Ok(()) }
+}
+
 // The answer after one more check: the refusal where none was given before and its condition holds.
+#[tactic(auto, unfolding(promises::specs::Order::after))]
 pub fn check(answer: Answer, when: bool, refusal: Answer) -> Answer
     ensures { told_of result ≡ after (check when (told_of refusal)) (told_of answer) }
 {
-    let done = number(answer) == 0;
-    if done & when { refusal } else { answer }
+    let value = answer?;
+    if when { refusal } else { Ok(value) }
 }

@@ -1,7 +1,7 @@
 -- Reading back, done or refused: what is then known, what is told, and what the strip is.
 use Prim.Native.Nat.{ℕ, ◌*◌, ◌≤◌, ◌<◌}
 use mathlib.Core.Path.{◌≡◌, refl, sym, ap, ◌∙◌}
-use mathlib.Core.Bool.{Bool, true, false, not, ◌||◌}
+use mathlib.Core.Bool.{true}
 use mathlib.Core.List.{List, [], ◌∷◌}
 use native.Mathlib.Omega.{arith}
 use lib.ListN.{length, get_or}
@@ -22,12 +22,6 @@ use Rattle.back.specs.Read.{read_byte}
 use Rattle.back.specs.Stray.{first_stray}
 use Rattle.back.specs.Back.{back_lengths, back_pixels, back_order, back_told, strip_back, BackFits}
 use Rattle.back.proofs.RoundTrip.{written_draws, drawn_clean, none_stray}
-
--- two frames that were alike so far, and are alike here
-pub alike : (x y : Bool) → (x || not y) ≡ false → (x ≡ false) × (y ≡ true)
-alike false true e = (refl, refl)
-alike false false e = let z : ◌≡◌ {A = ℕ} 0 1 = cc in absurd (omega arith)
-alike true y e = let z : ◌≡◌ {A = ℕ} 0 1 = cc in absurd (omega arith)
 
 -- a frame that is like a drawing has no stray pixel
 pub drawing_clean : (l : Look) (font S f P old : List ℕ) → l.pins ≤ 63 → graphics l ≡ true → 192 * width l ≤ length S → frame_length ≤ length old

@@ -1,4 +1,5 @@
 -- The laws of laying, and that the contract fixes its outcome.
+pub mod Copied
 pub mod Signs
 pub mod Firsts
 pub mod Patches

@@ -16,11 +16,28 @@ use Rattle.promises.proofs.Fills.{lt_or_ge}
 use Rattle.plans.specs.Cuts.{amid}
 use Rattle.plans.proofs.Sides.{amid_yes, amid_before, amid_past, amid_none}
 use Rattle.canvas.specs.Patch.{Patched}
+use Rattle.canvas.specs.declared.Patch.{Patch}
 
-module _ (frame : List ℕ) (from width column line n : ℕ) where
+module _ (frame : List ℕ) (p : Patch) (width : ℕ) where
+  abbrev from : ℕ
+  from = p.from
+
+  abbrev column : ℕ
+  column = p.column
+
+  abbrev line : ℕ
+  line = p.line
+
+  abbrev n : ℕ
+  n = p.columns
+
+  -- the first i rows of the patch
+  abbrev pub rows : ℕ → Patch
+  rows i = record p { lines = i }
+
   -- the pixel at line q, column m, where o stood
   abbrev pixel : ℕ → ℕ → ℕ → ℕ → ℕ
-  pixel rows q m o = choose (amid column n m && amid line rows q) (get_or frame (from + 256 * (q - line) + (m - column)) 0) o
+  pixel some q m o = choose (amid column n m && amid line some q) (get_or frame (from + 256 * (q - line) + (m - column)) 0) o
 
   same : (r s q m o : ℕ) → amid line r q ≡ amid line s q → pixel r q m o ≡ pixel s q m o
   same r s q m o e = rw e
@@ -76,12 +93,12 @@ module _ (frame : List ℕ) (from width column line n : ℕ) where
       at_place = ⊎_elim above (λ h. ⊎_elim below (λ l. in_line (omega arith)) (lt_or_ge (line + i) q)) (lt_or_ge q (line + i))
 
   -- no row is copied yet
-  pub begun : (old : List ℕ) → Patched frame from width column line n 0 old old
+  pub begun : (old : List ℕ) → Patched frame (rows 0) width old old
   begun old = record { long = refl; is = λ k. sym (out_line 0 (k / width) (k % width) (get_or old k 0) (amid_none line (k / width))) }
 
   -- one row more
-  pub row_more : (i : ℕ) {old mid new : List ℕ} → 0 < width → column + n ≤ width → Patched frame from width column line n i old mid
+  pub row_more : (i : ℕ) {old mid new : List ℕ} → 0 < width → column + n ≤ width → Patched frame (rows i) width old mid
       → Filled (λ (k : ℕ). get_or frame (from + i * 256 + (k - ((line + i) * width + column))) 0) ((line + i) * width + column) ((line + i) * width + column + n) mid new
-      → Patched frame from width column line n (i + 1) old new
-  row_more i {old} {mid} {new} wide fits p f =
-      record { long = f.long ∙ p.long; is = λ k. at_place i f fits (get_or old k 0) k (k / width) (k % width) (sym (div-add-mod' k width)) (mod-lt k wide) (p.is k) }
+      → Patched frame (rows (i + 1)) width old new
+  row_more i {old} {mid} {new} wide fits q f =
+      record { long = f.long ∙ q.long; is = λ k. at_place i f fits (get_or old k 0) k (k / width) (k % width) (sym (div-add-mod' k width)) (mod-lt k wide) (q.is k) }

@@ -8,6 +8,9 @@ use native.Mathlib.Nat.{mul-le-mul, mul_comm, mul-le-mul_right, div-lt_iff_lt-mu
 use borrow.Author.Tests.{leb-true}
 use lib.Dec.{leb, ltb}
 use lib.IntN.{ℤ, pos, nat_abs, ◌-ℤ◌}
+use mir.Syntax.{w16}
+use mir.Val.{SFits, to_z, of_z}
+use mir.ValLaws.{to_z-of_z}
 use lib.ListN.{length, get_or, get_or-eq_default}
 use Rattle.promises.specs.Choose.{choose}
 use Rattle.promises.proofs.Choices.{both_pass}
@@ -19,7 +22,8 @@ use Rattle.plans.proofs.Sides.{far_is}
 use Rattle.plans.proofs.Pixels.{sum_is_area, on_is, covers_is, none_amid}
 use Rattle.plans.proofs.Refusals.{Sized, sized, short, Inside, inside}
 use Rattle.canvas.specs.declared.Side.{Side}
-use Rattle.canvas.specs.Patch.{side_of, patched, Patched, Ready}
+use Rattle.canvas.specs.declared.Patch.{Patch}
+use Rattle.canvas.specs.Patch.{side_of, patched, Patched, Lies, Ready}
 
 -- past its end a list has only what stands for nothing
 past : (l : List ℕ) (k : ℕ) → length l ≤ k → get_or l k 0 ≡ 0
@@ -39,6 +43,10 @@ rows_fit : (top left above off across down columns lines : ℕ) → 0 < lines �
     → ((top + above) * 256 + (left + off) + 256 * (lines - 1) + columns ≤ 49152) × (top + above ≤ 192) × (left + off ≤ 256)
 rows_fit top left above off across down columns lines z h v r b = (omega arith, omega arith, omega arith)
 
+-- the patch of a placement, by its two sides
+abbrev pub patch : Placement → Side → Side → Patch
+patch p h v = record { from = (p.top + v.cut) * 256 + (p.left + h.cut); columns = h.kept; lines = v.kept; column = h.start; line = v.start }
+
 module _ (frame : List ℕ) (p : Placement) (width height : ℕ) (canvas : List ℕ) (ready : Ready (length frame) p width height (length canvas)) where
   abbrev columns : ℕ
   columns = kept_of p.x p.across width
@@ -52,17 +60,20 @@ module _ (frame : List ℕ) (p : Placement) (width height : ℕ) (canvas : List 
   abbrev line : ℕ
   line = start_of p.y
 
-  abbrev from : ℕ
-  from = (p.top + off_of p.y) * 256 + (p.left + off_of p.x)
+  abbrev cut : Patch
+  cut = patch p (side_of p.x p.across width) (side_of p.y p.down height)
 
-  lies : Inside p
-  lies = inside p ready.inside
+  abbrev from : ℕ
+  from = cut.from
+
+  inner : Inside p
+  inner = inside p ready.inside
 
   size : Sized width height (length canvas)
   size = sized width height (length canvas) ready.sized
 
   area_small : area p ≤ 65536
-  area_small = let h : p.across ≤ 256 = omega (arith, lies.right) in let v : p.down ≤ 256 = omega (arith, lies.below) in omega (arith, mul-le-mul h v)
+  area_small = let h : p.across ≤ 256 = omega (arith, inner.right) in let v : p.down ≤ 256 = omega (arith, inner.below) in omega (arith, mul-le-mul h v)
 
   on_le : columns * lines ≤ area p
   on_le = omega (arith, on_is width height p, sum_is_area width height p)
@@ -85,7 +96,7 @@ module _ (frame : List ℕ) (p : Placement) (width height : ℕ) (canvas : List 
   pixel_by c r o true false e f = refl
   pixel_by c r o false t e f = refl
 
-  pixel_is : (k : ℕ) → k < length canvas → patched frame from width column line columns lines canvas k ≡ seen frame (p ∷ []) (k % width) (k / width) (get_or canvas k 0)
+  pixel_is : (k : ℕ) → k < length canvas → patched frame cut width canvas k ≡ seen frame (p ∷ []) (k % width) (k / width) (get_or canvas k 0)
   unfolding seen
   pixel_is k h =
       let s = size in
@@ -94,7 +105,7 @@ module _ (frame : List ℕ) (p : Placement) (width height : ℕ) (canvas : List 
       ∙ ap (λ (b : Bool). choose b (pixel_of frame p (k % width) (k / width)) (get_or canvas k 0)) (sym (covers_is p width height (k % width) (k / width) (mod-lt k s.wide) row_in))
 
   -- rows copied are the rectangle laid
-  laid_is : {new : List ℕ} → Patched frame from width column line columns lines canvas new → new ≡ laid frame width (p ∷ []) canvas
+  laid_is : {new : List ℕ} → Patched frame cut width canvas new → new ≡ laid frame width (p ∷ []) canvas
   laid_is {new} h =
       filled_written (omega arith) (record {
         long = h.long;
@@ -107,41 +118,39 @@ module _ (frame : List ℕ) (p : Placement) (width height : ℕ) (canvas : List 
   none_laid : columns * lines ≡ 0 → canvas ≡ laid frame width (p ∷ []) canvas
   none_laid e = laid_is (record { long = refl; is = λ k. sym (rw (none_amid column columns line lines (k % width) (k / width) e)) })
 
-  -- what copying the rows asks
+  -- what copying the patch asks, and that its corner lies near
   record Copies : Type 0 where
-    pub some : (0 < columns) × (0 < lines)
-    pub low : line ≤ 65536
-    pub broad : column + columns ≤ width
-    pub framed : from + 256 * (lines - 1) + columns ≤ length frame
-    pub roomy : (line + lines) * width ≤ length canvas
-    pub top_small : p.top + off_of p.y ≤ 192
-    pub left_small : p.left + off_of p.x ≤ 256
+    pub lies : Lies cut (length frame) width (length canvas)
+    pub near : (p.top + off_of p.y ≤ 192) × (p.left + off_of p.x ≤ 256)
 
   copies : (columns * lines ≡ 0 → ⊥) → Copies
   copies f =
       let b = factors columns lines f in
       let h = kept_fits (off_of p.x) column p.across width b.0 in
       let v = kept_fits (off_of p.y) line p.down height b.1 in
-      let far = rows_fit p.top p.left (off_of p.y) (off_of p.x) p.across p.down columns lines b.1 h.0 v.0 lies.right lies.below in
+      let far = rows_fit p.top p.left (off_of p.y) (off_of p.x) p.across p.down columns lines b.1 h.0 v.0 inner.right inner.below in
       record {
-        some = b;
-        low = le_trans (le_trans (le-add_right line lines) v.1) (short size).1;
-        broad = h.1;
-        framed = le_trans far.0 ready.framed;
-        roomy = le_trans (mul-le-mul_right width v.1) (le_of_eq (mul_comm height width ∙ sym size.is));
-        top_small = far.1;
-        left_small = far.2;
+        lies = record {
+          some = b;
+          low = le_trans (le_trans (le-add_right line lines) v.1) (short size).1;
+          broad = h.1;
+          framed = le_trans far.0 ready.framed;
+          roomy = le_trans (mul-le-mul_right width v.1) (le_of_eq (mul_comm height width ∙ sym size.is));
+        };
+        near = (far.1, far.2);
       }
-
--- a side, from what the code measures of it
-pub side_is : (z : ℤ) (n edge : ℕ) {a b k : ℕ} → a ≡ off_of z → b ≡ start_of z → k ≡ min (n - a) (edge - b) → record { cut = a; start = b; kept = k } ≡ side_of z n edge
-side_is z n edge e f g = rw (g, e, f)
 
 -- The same in the two sides that the code has measured: the proof of `lay_one` cites these.
 pub record Measured (frame : List ℕ) (p : Placement) (width height : ℕ) (canvas : List ℕ) (h v : Side) : Type 0 where
   pub ready : Ready (length frame) p width height (length canvas)
   pub h_is : h ≡ side_of p.x p.across width
   pub v_is : v ≡ side_of p.y p.down height
+
+-- the corner was passed on in 16 bits, and is read back from them as it is
+pub measured : {frame : List ℕ} {p : Placement} {width height : ℕ} {canvas : List ℕ} {h v : Side} → SFits w16 p.x → SFits w16 p.y → Ready (length frame) p width height (length canvas)
+    → h ≡ side_of (to_z w16 (of_z w16 p.x)) p.across width → v ≡ side_of (to_z w16 (of_z w16 p.y)) p.down height → Measured frame p width height canvas h v
+measured {p = p} {width = width} {height = height} f g r e d =
+    record { ready = r; h_is = e ∙ ap (λ (z : ℤ). side_of z p.across width) (to_z-of_z w16 p.x f); v_is = d ∙ ap (λ (z : ℤ). side_of z p.down height) (to_z-of_z w16 p.y g) }
 
 module _ {frame : List ℕ} {p : Placement} {width height : ℕ} {canvas : List ℕ} {h v : Side} (m : Measured frame p width height canvas h v) where
   pub on_fits : h.kept * v.kept ≤ 65536
@@ -156,7 +165,7 @@ module _ {frame : List ℕ} {p : Placement} {width height : ℕ} {canvas : List 
   pub entry : with_counts p (h.kept * v.kept) (area p - h.kept * v.kept) ≡ entered width height p
   entry = rw (m.h_is, m.v_is) (entry_is frame p width height canvas m.ready)
 
-  pub pixels : {new : List ℕ} → Patched frame ((p.top + v.cut) * 256 + (p.left + h.cut)) width h.start v.start h.kept v.kept canvas new → new ≡ laid frame width (p ∷ []) canvas
+  pub pixels : {new : List ℕ} → Patched frame (patch p h v) width canvas new → new ≡ laid frame width (p ∷ []) canvas
   pixels patch = laid_is frame p width height canvas m.ready (rw (m.h_is, m.v_is) at patch)
 
   -- where nothing is kept
@@ -172,9 +181,8 @@ module _ {frame : List ℕ} {p : Placement} {width height : ℕ} {canvas : List 
     all : Copies frame p width height canvas m.ready
     all = copies frame p width height canvas m.ready (rw (m.h_is, m.v_is) at some)
 
-    pub asked : ((0 < h.kept) × (0 < v.kept) × (v.start ≤ 65536) × (h.start + h.kept ≤ width))
-        × (((p.top + v.cut) * 256 + (p.left + h.cut) + 256 * (v.kept - 1) + h.kept ≤ length frame) × ((v.start + v.kept) * width ≤ length canvas))
-    asked = rw (m.h_is, m.v_is) ((all.some.0, all.some.1, all.low, all.broad), (all.framed, all.roomy))
+    pub asked : Lies (patch p h v) (length frame) width (length canvas)
+    asked = rw (m.h_is, m.v_is) all.lies
 
     pub near : (p.top + v.cut ≤ 192) × (p.left + h.cut ≤ 256)
-    near = rw (m.h_is, m.v_is) (all.top_small, all.left_small)
+    near = rw (m.h_is, m.v_is) all.near

@@ -1,21 +1,14 @@
--- Placements laid one after the other: the canvas and the entries after the first i, and after all that are laid.
-use Prim.Native.Nat.{ℕ, zero, suc, ◌+◌, ◌≤◌, ◌<◌, zero-le}
+-- Placements laid one after the other: the canvas and the entries after the first i, and after all.
+use Prim.Native.Nat.{ℕ, zero, suc, ◌+◌, ◌≤◌, ◌<◌}
 use mathlib.Core.Path.{◌≡◌, refl, sym, ap, ◌∙◌}
-use mathlib.Core.Bool.{Bool, true, false}
 use mathlib.Core.List.{List, [], ◌∷◌, map}
-use native.Mathlib.Omega.{arith}
-use native.Mathlib.Nat.{le_refl, le_of_suc-le-suc, not-suc-le-zero}
+use native.Mathlib.Nat.{le_of_suc-le-suc, not-suc-le-zero}
 use native.Mathlib.Numerals.{add-one}
-use borrow.Author.Tests.{eqb-true}
-use lib.Dec.{eqb}
 use lib.ListN.{length, get_or, set}
-use Rattle.promises.specs.Choose.{choose}
-use Rattle.promises.specs.Written.{leaves}
-use Rattle.promises.proofs.Choices.{of_both}
 use Rattle.plans.specs.declared.Placement.{Placement}
-use Rattle.plans.specs.Canvas.{laid, entered, lay_told, entries_after, canvas_after}
+use Rattle.plans.specs.Canvas.{laid, entered, lay_told}
 use Rattle.plans.proofs.Refusals.{tested, framed, fits, all_inside}
-use Rattle.plans.proofs.Layers.{laid_long, laid_none, laid_more}
+use Rattle.plans.proofs.Layers.{laid_long, laid_none, laid_more as laid_first}
 use Rattle.canvas.specs.Patch.{Ready}
 
 -- the first i elements of a list changed by f, the others as they were
@@ -73,44 +66,25 @@ module _ (frame : List ℕ) (width : ℕ) where
   after_all zero [] c h = laid_none frame width c
   after_all zero (y ∷ ys) c h = absurd (not-suc-le-zero h)
   after_all (suc i) [] c h = laid_none frame width c
-  after_all (suc i) (y ∷ ys) c h = after_all i ys (laid frame width (y ∷ []) c) (le_of_suc-le-suc h) ∙ laid_more frame width y ys c
+  after_all (suc i) (y ∷ ys) c h = after_all i ys (laid frame width (y ∷ []) c) (le_of_suc-le-suc h) ∙ laid_first frame width y ys c
 
--- the whole operation: all placements are laid, or none
-module _ (frame : List ℕ) (ys : List Placement) (width height : ℕ) (cs : List ℕ) where
-  -- whether it is accepted, and how many placements are laid
-  abbrev accepts : Bool
-  accepts = eqb (lay_told frame ys width height cs).number 0
+-- an accepted call
+module _ (frame : List ℕ) (ys : List Placement) (width height : ℕ) (cs : List ℕ) (accepts : (lay_told frame ys width height cs).number ≡ 0) where
+  -- a placement has what laying it asks
+  pub ready : (i : ℕ) (d : Placement) → i < length ys → Ready (length frame) (get_or ys i d) width height (length cs)
+  ready i d l =
+      record { framed = framed frame ys width height cs accepts; inside = sym (tested ys i d l) ∙ all_inside frame ys width height cs accepts i l; sized = fits frame ys width height cs accepts }
 
-  abbrev pub turns : ℕ
-  turns = choose accepts (length ys) 0
+  -- the placement in turn is as it was lent, and with the turn one more is entered and laid
+  module _ (i : ℕ) (d : Placement) {ps : List Placement} {now : List ℕ} (h : i < length ys) (e : ps ≡ upto (entered width height) i ys) (f : now ≡ after frame width i ys cs) where
+    entry : get_or ps i d ≡ get_or ys i d
+    entry = ap (λ (l : List Placement). get_or l i d) e ∙ upto_at (entered width height) i ys d
 
-  pub turns_le : turns ≤ length ys
-  turns_le = of_both (λ (k : ℕ). k ≤ length ys) accepts (le_refl (length ys)) zero-le
+    pub ready_now : Ready (length frame) (get_or ps i d) width height (length now)
+    ready_now = rw (entry, f, after_length frame width i ys cs) (ready i d h)
 
-  -- the entries and the canvas after all that are laid
-  entries_by : (b : Bool) → upto (entered width height) (choose b (length ys) 0) ys ≡ choose b (map (entered width height) ys) ys
-  entries_by true = upto_all (entered width height) (length ys) ys (le_refl (length ys))
-  entries_by false = refl
+    pub entered_more : {p : Placement} → p ≡ entered width height (get_or ps i d) → set ps i p ≡ upto (entered width height) (i + 1) ys
+    entered_more {p} g = ap (λ (l : List Placement). set l i p) e ∙ ap (set (upto (entered width height) i ys) i) (g ∙ ap (entered width height) entry) ∙ upto_more (entered width height) i ys d h
 
-  pub entries_end : upto (entered width height) turns ys ≡ entries_after frame ys width height cs
-  unfolding entries_after leaves
-  entries_end = entries_by accepts
-
-  canvas_by : (b : Bool) → after frame width (choose b (length ys) 0) ys cs ≡ choose b (laid frame width ys cs) cs
-  canvas_by true = after_all frame width (length ys) ys cs (le_refl (length ys))
-  canvas_by false = refl
-
-  pub canvas_end : after frame width turns ys cs ≡ canvas_after frame ys width height cs
-  unfolding canvas_after leaves
-  canvas_end = canvas_by accepts
-
-  laid_only : {i : ℕ} (b : Bool) → accepts ≡ b → i < choose b (length ys) 0 → accepts ≡ true
-  laid_only true e h = e
-  laid_only false e h = absurd (not-suc-le-zero h)
-
-  -- a placement that is laid has what it asks
-  pub ready : (i : ℕ) (d : Placement) → i < turns → Ready (length frame) (get_or ys i d) width height (length cs)
-  ready i d h =
-      let a : (lay_told frame ys width height cs).number ≡ 0 = eqb-true _ 0 (laid_only accepts refl h) in
-      let l : i < length ys = omega (arith, turns_le) in
-      record { framed = framed frame ys width height cs a; inside = sym (tested ys i d l) ∙ all_inside frame ys width height cs a i l; sized = fits frame ys width height cs a }
+    pub laid_more : {new : List ℕ} → new ≡ laid frame width (get_or ps i d ∷ []) now → new ≡ after frame width (i + 1) ys cs
+    laid_more g = g ∙ ap (λ (p : Placement). laid frame width (p ∷ []) now) entry ∙ ap (laid frame width (get_or ys i d ∷ [])) f ∙ after_more frame width i ys d cs h

@@ -6,8 +6,14 @@ use native.Mathlib.Nat.{pow-suc, mul_assoc, suc-add, zero-add}
 use borrow.Author.Tests.{ne_eqb}
 use lib.Dec.{eqb}
 use lib.Bits.{bit_xor, differ}
+use mathlib.Core.List.{List, [], ◌∷◌}
+use lib.ListN.{length, get_or}
+use Rattle.std.proofs.Common.{drop}
+use Rattle.std.specs.List.{fold}
+use Rattle.std.specs.Simd.{first_chunks}
 use Rattle.promises.specs.Choose.{choose}
 use Rattle.checksum.specs.Crc.{polynomial, crc_bit, crc_bits, crc_byte, crc_after, crc}
+use Rattle.checksum.proofs.Chunks.{whole_then_rest, all_items}
 use Rattle.checksum.proofs.Xors.{xor_half, xor_odd, xor_assoc, xor_swap, xor_cancel}
 
 -- ---- one bit
@@ -34,13 +40,11 @@ unfolding crc_bit
 bit_linear a b = rw (xor_half a b, xor_odd a b) (linear_by (a % 2) (b % 2) (omega arith) (omega arith) (a / 2) (b / 2) polynomial)
 
 -- ---- several bits
-pub bits_none : (c : ℕ) → crc_bits 0 c ≡ c
+-- as many as a list is long
+pub bits_along : (c : ℕ) (xs : List ℕ) → fold (λ (s k : ℕ). crc_bit s) c xs ≡ crc_bits (length xs) c
 unfolding crc_bits
-bits_none c = refl
-
-pub bits_turn : (m n c : ℕ) → m ≡ suc n → crc_bits m c ≡ crc_bits n (crc_bit c)
-unfolding crc_bits
-bits_turn m n c e = rw e refl
+bits_along c [] = refl
+bits_along c (x ∷ xs) = bits_along (crc_bit c) xs
 
 pub bits_add : (m n c : ℕ) → crc_bits (m + n) c ≡ crc_bits n (crc_bits m c)
 unfolding crc_bits
@@ -69,13 +73,18 @@ pub byte_is : (c b : ℕ) → crc_byte c b ≡ crc_bits 8 (bit_xor c b)
 unfolding crc_byte
 byte_is c b = refl
 
-pub after_none : (g : ℕ → ℕ) → crc_after g 0 ≡ 4294967295
+-- the register along a list, and complemented at the end
+after_list : (bytes : List ℕ) → fold crc_byte 4294967295 bytes ≡ crc_after (λ (k : ℕ). get_or bytes k 0) (length bytes)
 unfolding crc_after
-after_none g = refl
+after_list bytes = all_items crc_byte (crc_after (λ (k : ℕ). get_or bytes k 0)) bytes (λ k. refl)
 
-pub crc_is : (g : ℕ → ℕ) (n c : ℕ) → c ≡ crc_after g n → bit_xor c 4294967295 ≡ crc g n
+-- the CRC, where whole fours are taken first and then the rest
+pub crc_of_list : (bytes : List ℕ) (c d : ℕ) → c ≡ fold (λ a four. fold crc_byte a four) 4294967295 (first_chunks 4 (length bytes / 4) bytes) → d ≡ fold crc_byte c (drop (length bytes / 4 * 4) bytes)
+    → bit_xor d 4294967295 ≡ crc (λ (k : ℕ). get_or bytes k 0) (length bytes)
 unfolding crc
-crc_is g n c e = rw e refl
+crc_of_list bytes c d e f =
+    ap (λ (x : ℕ). bit_xor x 4294967295)
+    (f ∙ ap (λ (x : ℕ). fold crc_byte x (drop (length bytes / 4 * 4) bytes)) e ∙ whole_then_rest crc_byte 4 (length bytes / 4) 4294967295 bytes ∙ after_list bytes)
 
 -- only the bytes that are summed count
 pub after_by : {g h : ℕ → ℕ} (n : ℕ) → ((k : ℕ) → k < n → g k ≡ h k) → crc_after g n ≡ crc_after h n

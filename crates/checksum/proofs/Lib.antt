@@ -1,7 +1,8 @@
 -- The laws of the checksums, and that their contracts fix one outcome.
 pub mod Xors
+pub mod Chunks
 pub mod Crcs
-pub mod Tables
+pub mod Entries
 pub mod Adlers
 pub mod Unique
 pub mod Examples

@@ -1,4 +1,5 @@
--- The two checksums of a PNG file, and the tables that one of them is computed by.
+-- The two checksums of a PNG file, and the steps that they are computed by.
 pub mod Crc
 pub mod Adler
 pub mod Sliced
+pub mod Sums

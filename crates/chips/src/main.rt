@@ -1,151 +1,106 @@
 // Brings what was read off the chips to an image, or back: standard input to standard output, by the arguments k and `image` or `chip`.
 #![tactic(auto)]
 
-ghost use Rattle.std.specs.Prelude.{◌≡◌, ◌↔◌, IsTrue};
-ghost use Rattle.io.specs.Counts.{IsPrefixLen};
-
 use answer::Answer;
-use std::env::FillError;
-use std::io::Read;
+use std::alloc::AllocError;
 use std::rt::Env;
 
-const STDIN_FILENO: i32 = 0;
+// The longest argument that is looked at.
+const LONGEST: usize = 64;
 
-const STDOUT_FILENO: i32 = 1;
-
-const STDERR_FILENO: i32 = 2;
-
-// A number of address pins, and whether the argument is one.
+// The direction. Kept as an enum and no closure: because rt ci refuses a function, as `way_in`, that hands out a function pointer.
 #[derive(Clone, Copy)]
-struct Pins {
-    given: bool,
-    k: usize,
+enum Way {
+    ToImage,
+    ToChip,
 }
 
-// The number that decimal digits make, 1,000 where it is greater: no chip has so many pins, and one so large is refused like it.
-fn pins_in(word: &[u8]) -> Pins {
-    let mut k: usize = 0;
-    for b in word {
-        if (*b < b'0') | (b'9' < *b) {
-            return Pins { given: false, k: 0 };
+impl Way {
+    // Crosses to an image, or to the chips.
+    fn cross(self, k: usize, lent: &[u8], room: &mut [u8]) -> Answer {
+        match self {
+            Way::ToImage => transpose::to_image(k, lent, room),
+            Way::ToChip => transpose::to_chip(k, lent, room),
         }
-        k = next_number(k, *b);
-    }
-    Pins {
-        given: 0 < word.len(),
-        k,
     }
 }
 
-// A number with one digit more, 1,000 where it is greater.
-fn next_number(k: usize, digit: u8) -> usize {
-    if 100 <= k {
-        return 1000;
+// The direction that a word says.
+fn way_in(word: &[u8]) -> Option<Way> {
+    match word {
+        b"image" => Some(Way::ToImage),
+        b"chip" => Some(Way::ToChip),
+        _ => None,
     }
-    10 * k + (digit % 16) as usize
 }
 
-// Whether the bytes are the word.
-fn is(bytes: &[u8], word: &[u8]) -> bool
-    ensures { IsTrue result ↔ (bytes.now ≡ word.now) }
-{
-    bytes == word
+// The value of a decimal digit.
+fn digit(b: u8) -> Option<usize> {
+    match b {
+        b'0'..=b'9' => Some(usize::from(b - b'0')),
+        _ => None,
+    }
+}
+
+// The number that decimal digits make. No chip has as many pins as the largest, and a greater one is refused like it.
+fn pins_in(word: &[u8]) -> Option<usize> {
+    if word.is_empty() {
+        return None;
+    }
+    let mut k = 0usize;
+    for b in word {
+        k = k.saturating_mul(10).saturating_add(digit(*b)?);
+    }
+    Some(k)
 }
 
 // Says what the arguments are.
-fn explain() {
-    io::write_all(
-        STDERR_FILENO,
-        b"chips: give k, the number of address pins, and a direction, image or chip\n",
+fn explain(rt: &impl Eprint) {
+    let _ = eprintln!(rt;
+        "chips: give k, the number of address pins, and a direction, image or chip"
     );
 }
 
-// Says a refusal as a report does, on standard error.
-fn refuse(answer: Answer) {
-    io::write_all(STDERR_FILENO, b"status=");
-    io::print_decimal(STDERR_FILENO, answer::number(answer) as u64);
-    io::write_all(STDERR_FILENO, b"\nplace=");
-    io::print_decimal(STDERR_FILENO, answer::place(answer) as u64);
-    io::write_all(STDERR_FILENO, b"\n");
-}
-
-// Writes the bytes where the answer is Done, and else the refusal.
-fn finish(answer: Answer, bytes: &[u8]) {
-    if let Answer::Done(_) = answer {
-        if !io::write_all(STDOUT_FILENO, bytes) {
-            io::write_all(STDERR_FILENO, b"chips: the output is not whole\n");
+// Writes the bytes where the answer is Done, and else says the refusal on standard error.
+fn finish(rt: &(impl Print + Eprint), answer: Answer, bytes: &[u8]) {
+    match answer {
+        Ok(_) => {
+            if rt.write_all(bytes).is_err() {
+                let _ = eprintln!(rt; "chips: the output is not whole");
+            }
         }
-        return;
+        Err(refusal) => {
+            let _ = eprintln!(rt; "{refusal}");
+        }
     }
-    refuse(answer);
-}
-
-// Whether standard input has ended: one read more then answers 0, and an error where it cannot be read.
-fn ended(rt: &impl Input) -> bool {
-    let mut more = [0u8; 1];
-    let mut input = rt.reader();
-    match input.read(&mut more) {
-        Ok(n) => n == 0,
-        Err(_) => false,
-    }
-}
-
-// Crosses to an image, or to the chips.
-fn one_way(to_image: bool, k: usize, lent: &[u8], room: &mut [u8]) -> Answer {
-    if to_image {
-        return transpose::to_image(k, lent, room);
-    }
-    transpose::to_chip(k, lent, room)
 }
 
 // Crosses standard input. The longest image has 65,536 bytes, and a byte more is enough to be refused.
-fn cross(rt: &impl Input, to_image: bool, k: usize) {
+fn cross(rt: &(impl Input + Print + Eprint), way: Way, k: usize) {
     let mut lent = [0u8; 65537];
     let mut room = [0u8; 65537];
-    let n = io::read_full(STDIN_FILENO, &mut lent);
-    if n < 65537 {
-        if !ended(rt) {
-            io::write_all(STDERR_FILENO, b"chips: the input cannot be read\n");
-            return;
-        }
-    }
-    let answer = one_way(to_image, k, &lent[..n], &mut room);
-    finish(answer, &room[..n]);
-}
-
-// Crosses by what the two arguments say.
-fn by_words(rt: &impl Input, pins: &[u8], way: &[u8]) {
-    let found = pins_in(pins);
-    let image = is(way, b"image");
-    let chip = is(way, b"chip");
-    if found.given & (image | chip) {
-        cross(rt, image, found.k);
+    let Ok(lent) = files::read_input(rt, &mut lent) else {
+        let _ = eprintln!(rt; "chips: the input cannot be read");
         return;
+    };
+    let answer = way.cross(k, lent, &mut room);
+    finish(rt, answer, &room[..lent.len()]);
+}
+
+// Crosses by two arguments; a third is enough to see that there are too many.
+fn run(rt: &(impl Env + Input + Print + Eprint + AllocGlobal)) -> Result<(), AllocError> {
+    let given = files::arguments(rt, 3, LONGEST)?;
+    if let [pins, way] = given.as_slice()
+        && let Some(k) = pins_in(pins)
+        && let Some(way) = way_in(way)
+    {
+        cross(rt, way, k);
+        return Ok(());
     }
-    explain();
+    explain(rt);
+    Ok(())
 }
 
-// Puts an argument at the start of the bytes, and says how many it has: 0 where it is missing or there is no room for it.
-fn argument(rt: &impl Env, i: usize, bytes: &mut [u8]) -> usize
-    ensures { IsPrefixLen result bytes.new }
-{
-    rt.arg(i, bytes).unwrap_or(0)
-}
-
-// Whether there is an argument of that number.
-fn is_given(rt: &impl Env, i: usize) -> bool {
-    let mut first = [0u8; 1];
-    !matches!(rt.arg(i, &mut first), Err(FillError::NotPresent))
-}
-
-fn main(rt: HostRuntime) {
-    let mut pins = [0u8; 64];
-    let mut way = [0u8; 64];
-    let n = argument(&rt, 1, &mut pins);
-    let m = argument(&rt, 2, &mut way);
-    if is_given(&rt, 2) & !is_given(&rt, 3) {
-        by_words(&rt, &pins[..n], &way[..m]);
-        return;
-    }
-    explain();
+fn main(rt: HostRuntime) -> Result<(), AllocError> {
+    run(&rt)
 }

@@ -17,7 +17,7 @@ use Rattle.promises.proofs.Fills.{written_by}
 use Rattle.promises.specs.Count.{somewhere}
 use Rattle.promises.proofs.Firsts.{same_first}
 use Rattle.promises.proofs.Counts.{same_many}
-use Rattle.answer.specs.declared.Answer.{Answer}
+use Rattle.answer.specs.Told.{Answer}
 use Rattle.answer.proofs.Answers.{one_answer}
 use Rattle.settings.specs.declared.Look.{Look}
 use Rattle.settings.specs.declared.Rule.{Rule}

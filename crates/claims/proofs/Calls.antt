@@ -4,7 +4,7 @@ use mathlib.Core.List.{List}
 use contract.Lifetimes.{Lfts}
 use Rattle.std.specs.Borrow.{Bor, MutBor}
 use Rattle.promises.specs.Fixes.{Allows}
-use Rattle.answer.specs.declared.Answer.{Answer}
+use Rattle.answer.specs.Told.{Answer}
 use Rattle.settings.specs.declared.Look.{Look}
 use Rattle.settings.specs.declared.Settings.{Settings}
 use Rattle.control.proofs.Unique.{play_op}

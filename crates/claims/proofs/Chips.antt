@@ -7,8 +7,7 @@ use mathlib.Core.List.{List}
 use contract.Lifetimes.{Lfts}
 use lib.ListN.{length, get_or, take}
 use Rattle.promises.specs.Told.{Told}
-use Rattle.answer.specs.declared.Answer.{Answer}
-use Rattle.answer.specs.Told.{told_of}
+use Rattle.answer.specs.Told.{Answer, told_of}
 use Rattle.transpose.specs.Chip.{chip_fits, chip_told, chip_after, chip_place}
 use Rattle.transpose.proofs.Twice.{keeps, inverse, byte_from, byte_to, done_again, twice}
 use Rattle.claims.proofs.Calls.{Lent, Room, ToImage, ToChip}

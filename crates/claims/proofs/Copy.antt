@@ -16,7 +16,7 @@ use Rattle.promises.specs.Written.{Bytes}
 use Rattle.promises.proofs.Choices.{of_both}
 use Rattle.promises.proofs.Orders.{done_when, done_says}
 use Rattle.promises.proofs.Fills.{lt_or_ge, written_fills}
-use Rattle.answer.specs.declared.Answer.{Answer}
+use Rattle.answer.specs.Told.{Answer}
 use Rattle.settings.specs.declared.Look.{Look}
 use Rattle.settings.specs.declared.Settings.{Settings}
 use Rattle.settings.specs.Fields.{graphics, gm2, gm1, gm0, css}

@@ -13,8 +13,7 @@ use Rattle.promises.specs.Told.{Told, told, done, refused}
 use Rattle.promises.specs.Part.{PartOf}
 use Rattle.promises.proofs.Choices.{by_test}
 use Rattle.promises.proofs.Parts.{part_move}
-use Rattle.answer.specs.declared.Answer.{Answer}
-use Rattle.answer.specs.Told.{told_of}
+use Rattle.answer.specs.Told.{Answer, told_of}
 use Rattle.grammar.specs.Sheet.{eq, Annotation, line}
 use Rattle.grammar.specs.Given.{accepted, told_in, fields_in, annotation_from, annotation_at}
 use Rattle.grammar.proofs.Parts.{sheet_told, some_accepted, line_in}

@@ -17,8 +17,7 @@ use Rattle.promises.specs.Written.{written}
 use Rattle.promises.proofs.Tables.{Each}
 use Rattle.promises.proofs.Orders.{given_when, done_when}
 use Rattle.promises.proofs.Fills.{written_fills}
-use Rattle.answer.specs.declared.Answer.{Answer}
-use Rattle.answer.specs.Told.{told_of}
+use Rattle.answer.specs.Told.{Answer, told_of}
 use Rattle.settings.specs.declared.Look.{Look}
 use Rattle.settings.specs.declared.Rule.TheVariants.{One}
 use Rattle.settings.specs.declared.Settings.{Settings}

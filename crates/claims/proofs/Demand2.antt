@@ -19,8 +19,7 @@ use Rattle.promises.specs.Order.{first_of}
 use Rattle.promises.specs.Written.{Bytes}
 use Rattle.promises.proofs.Orders.{done_says}
 use Rattle.promises.proofs.Fills.{written_fills}
-use Rattle.answer.specs.declared.Answer.{Answer}
-use Rattle.answer.specs.Told.{told_of}
+use Rattle.answer.specs.Told.{Answer, told_of}
 use Rattle.settings.specs.declared.Look.{Look}
 use Rattle.settings.specs.declared.Settings.{Settings}
 use Rattle.settings.specs.Fields.{graphics}

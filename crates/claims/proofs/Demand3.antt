@@ -13,8 +13,7 @@ use Rattle.promises.specs.Told.{done}
 use Rattle.promises.specs.Order.{Check, first_of, NoneHolds}
 use Rattle.promises.specs.Written.{Bytes}
 use Rattle.promises.proofs.Orders.{done_when}
-use Rattle.answer.specs.declared.Answer.{Answer}
-use Rattle.answer.specs.Told.{told_of}
+use Rattle.answer.specs.Told.{Answer, told_of}
 use Rattle.answer.proofs.Answers.{one_answer}
 use Rattle.settings.specs.declared.Settings.{Settings}
 use Rattle.settings.specs.Fields.{graphics}

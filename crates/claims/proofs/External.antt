@@ -18,8 +18,7 @@ use Rattle.promises.specs.Order.{first_of, NoneHolds}
 use Rattle.promises.specs.Written.{Bytes}
 use Rattle.promises.proofs.Choices.{both_pass}
 use Rattle.promises.proofs.Orders.{done_when, never}
-use Rattle.answer.specs.declared.Answer.{Answer}
-use Rattle.answer.specs.Told.{told_of}
+use Rattle.answer.specs.Told.{Answer, told_of}
 use Rattle.answer.proofs.Answers.{not_two}
 use Rattle.settings.specs.declared.Look.{Look}
 use Rattle.settings.specs.declared.Settings.{Settings}

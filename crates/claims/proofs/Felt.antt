@@ -9,7 +9,7 @@ use contract.Lifetimes.{Lfts}
 use lib.Dec.{eqb}
 use Rattle.promises.specs.Choose.{choose}
 use Rattle.promises.proofs.Tables.{Each}
-use Rattle.answer.specs.declared.Answer.{Answer}
+use Rattle.answer.specs.Told.{Answer}
 use Rattle.answer.proofs.Answers.{one_answer}
 use Rattle.settings.specs.declared.Look.{Look}
 use Rattle.settings.specs.declared.Rule.{Rule}

@@ -12,7 +12,7 @@ use lib.ListN.{get_or, replicate}
 use Rattle.promises.specs.Choose.{choose}
 use Rattle.promises.specs.Order.{NoneHolds}
 use Rattle.promises.specs.Written.{Bytes}
-use Rattle.answer.specs.declared.Answer.{Answer}
+use Rattle.answer.specs.Told.{Answer}
 use Rattle.settings.specs.declared.Look.{Look}
 use Rattle.settings.specs.declared.Settings.{Settings}
 use Rattle.settings.specs.Fields.{look_of, graphics, external, gm1, gm0, css}

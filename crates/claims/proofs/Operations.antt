@@ -30,6 +30,7 @@ operations =
     fixed answer.number_fixes
     ∷ fixed answer.place_fixes
     ∷ fixed answer.value_fixes
+    ∷ fixed answer.refuse_fixes
     ∷ fixed answer.check_fixes
     ∷ fixed buffer.store_fixes
     ∷ fixed settings.video_mode_fixes
@@ -87,21 +88,13 @@ operations =
     ∷ fixed report-text.report_after_fixes
     ∷ fixed trial.look_of_fixes
     ∷ fixed trial.settings_of_fixes
-    ∷ fixed trial.least_fixes
     ∷ fixed trial.cut_fixes
     ∷ fixed trial.byte_at_fixes
+    ∷ fixed trial.put_fixes
     ∷ fixed trial.lay_fixes
     ∷ fixed trial.mark_fixes
     ∷ fixed trial.unchanged_from_fixes
     ∷ fixed trial.sum_fixes
-    ∷ fixed trial.say_fixes
-    ∷ fixed trial.form_fixes
-    ∷ fixed trial.one_fixes
-    ∷ fixed trial.figure_name_fixes
-    ∷ fixed trial.rule_name_fixes
-    ∷ fixed trial.number_and_place_fixes
-    ∷ fixed trial.answered_fixes
-    ∷ fixed trial.quoted_fixes
     ∷ []
 
 -- the functions that the list is of, by the names that the compiler has for them
@@ -109,6 +102,7 @@ pub named : map (λ o. o.operation.key) operations
     ≡ "answer::number"
     ∷ "answer::place"
     ∷ "answer::value"
+    ∷ "answer::refuse"
     ∷ "answer::check"
     ∷ "buffer::store"
     ∷ "settings::video_mode"
@@ -166,21 +160,13 @@ pub named : map (λ o. o.operation.key) operations
     ∷ "report_text::report_after"
     ∷ "trial::look_of"
     ∷ "trial::settings_of"
-    ∷ "trial::least"
     ∷ "trial::cut"
     ∷ "trial::byte_at"
+    ∷ "trial::put"
     ∷ "trial::lay"
     ∷ "trial::mark"
     ∷ "trial::unchanged_from"
     ∷ "trial::sum"
-    ∷ "trial::say"
-    ∷ "trial::form"
-    ∷ "trial::one"
-    ∷ "trial::figure_name"
-    ∷ "trial::rule_name"
-    ∷ "trial::number_and_place"
-    ∷ "trial::answered"
-    ∷ "trial::quoted"
     ∷ []
 unfolding operations
 named = refl

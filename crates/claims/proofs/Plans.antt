@@ -9,7 +9,7 @@ use lib.ListN.{length, get_or}
 use Rattle.promises.specs.Told.{Told}
 use Rattle.promises.specs.Count.{how_many}
 use Rattle.promises.proofs.Tables.{Each}
-use Rattle.answer.specs.declared.Answer.{Answer}
+use Rattle.answer.specs.Told.{Answer}
 use Rattle.plans.specs.declared.Placement.{Placement}
 use Rattle.plans.specs.Canvas.{area, pixels_on, entered, covers, pixel_of, laid, canvas_fits, lay_told}
 use Rattle.plans.proofs.Refusals.{fits, entries_done, canvas_done}

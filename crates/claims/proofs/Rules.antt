@@ -12,7 +12,7 @@ use lib.Dec.{T}
 use lib.ListN.{get_or}
 use borrow.Author.Tests.{eqb-true}
 use Rattle.promises.proofs.Choices.{by_test}
-use Rattle.answer.specs.declared.Answer.{Answer}
+use Rattle.answer.specs.Told.{Answer}
 use Rattle.settings.specs.declared.Rule.{Rule}
 use Rattle.settings.specs.declared.Rule.TheVariants.{One, Two}
 use Rattle.settings.specs.declared.Settings.{Settings}

@@ -15,7 +15,7 @@ use borrow.Author.Tests.{eq-eqb, eqb-true, le-ltb}
 use Rattle.promises.specs.Count.{how_many}
 use Rattle.promises.proofs.Choices.{of_both, by_test}
 use Rattle.promises.proofs.Counts.{fails, holds}
-use Rattle.answer.specs.declared.Answer.{Answer}
+use Rattle.answer.specs.Told.{Answer}
 use Rattle.settings.specs.declared.Rule.TheVariants.{One, Two}
 use Rattle.settings.specs.declared.Settings.{Settings}
 use Rattle.settings.specs.Fields.{bits, video_mode, fast, memory, graphics, gm}

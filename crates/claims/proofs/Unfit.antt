@@ -18,7 +18,7 @@ use Rattle.promises.proofs.Fills.{lt_or_ge}
 use Rattle.promises.proofs.Orders.{done_when}
 use Rattle.promises.specs.First.{first_where}
 use Rattle.promises.proofs.Firsts.{first_none}
-use Rattle.answer.specs.declared.Answer.{Answer}
+use Rattle.answer.specs.Told.{Answer}
 use Rattle.settings.specs.declared.Look.{Look}
 use Rattle.settings.specs.declared.Rule.{Rule}
 use Rattle.settings.specs.declared.Rule.TheVariants.{One}

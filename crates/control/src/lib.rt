@@ -5,13 +5,13 @@ ghost use Rattle.std.specs.Prelude.{◌≡◌, true};
 ghost use Rattle.answer.specs.Told.{told_of};
 ghost use Rattle.control.specs.Control.{is_control, word_after, play_told};
 
-use answer::Answer;
+use answer::{Answer, Refusal};
 
 // Whether an address is one of the control word's.
 fn is_control(address: u16) -> bool
     ensures { result ≡ is_control address }
 {
-    (0xFFC0 <= address) & (address <= 0xFFDF)
+    matches!(address, 0xFFC0..=0xFFDF)
 }
 
 // The word after one write: which bit, by halving the distance from $FFC0, and set or cleared by the address being odd.
@@ -33,14 +33,11 @@ pub fn play(word: u16, writes: &[u16]) -> Answer
     ensures { told_of result ≡ play_told word writes.now }
 {
     let mut now = word;
-    let mut i = 0;
-    while i < writes.len() {
-        let address = writes[i];
+    for (i, &address) in writes.iter().enumerate() {
         if !is_control(address) {
-            return Answer::Elsewhere(i, word);
+            return Err(Refusal::Elsewhere(i, word));
         }
         now = word_after(now, address);
-        i += 1;
     }
-    Answer::Done(now as usize)
+    Ok(usize::from(now))
 }

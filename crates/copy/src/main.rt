@@ -1,242 +1,206 @@
 // The clerk's copy: from a sheet, an image and a font to the strip that is kept, the picture that is shown, and the report.
 #![tactic(auto)]
 
-mod files;
-mod reading;
-
-ghost use Rattle.std.specs.Prelude.{◌≤◌, length};
-ghost use Rattle.io.specs.Counts.{IsPrefixLen};
-
-use answer::Answer;
+use answer::Refusal;
+use files::{Failure, LONGEST_PATH};
 use picture::FILE_LENGTH;
-use reading::{STDERR_FILENO, argument, is_given, read_arg};
-use settings::{FRAME_LENGTH, Settings};
+use report_text::Text;
+use settings::FRAME_LENGTH;
+use std::alloc::AllocError;
 use std::fs::File;
 use std::rt::{Env, Files};
 
-const STDOUT_FILENO: i32 = 1;
-
 // How each sentence on standard error begins.
-const WHO: [u8; 6] = *b"copy: ";
-
-// A path of a file that is made.
-#[derive(Drop)]
-struct Path {
-    bytes: [u8; 4096],
-    len: usize,
-}
+const WHO: &str = "copy";
 
 // The files: NAME is the fourth argument, and what each file is stands behind it.
+#[derive(Drop)]
+struct Paths {
+    strip: Vec<u8>,
+    png: Vec<u8>,
+    report: Vec<u8>,
+}
 
-// Lays a text, and then zeros, behind the first n bytes of a path. One that is cut here has as many bytes as the system takes in no path.
-fn extend(path: &mut [u8], n: usize, suffix: &[u8])
-    requires { n ≤ length path.old }
-{
-    for i in n..path.len() {
-        path[i] = files::byte(suffix, i - n);
+// The path of one file. One that is cut here has as many bytes as the system takes in no path.
+fn path(rt: &impl AllocGlobal, name: &[u8], suffix: &[u8]) -> Result<Vec<u8>, AllocError> {
+    let mut path = name.to_vec(rt.alloc())?;
+    path.extend_from_slice(suffix)?;
+    path.truncate(LONGEST_PATH);
+    Ok(path)
+}
+
+impl Paths {
+    // The paths of a copy by its name.
+    fn of(rt: &impl AllocGlobal, name: &[u8]) -> Result<Paths, AllocError> {
+        Ok(Paths {
+            strip: path(rt, name, b".strip")?,
+            png: path(rt, name, b".png")?,
+            report: path(rt, name, b".report")?,
+        })
     }
 }
 
-// The path of a file that is made.
-fn path_of(rt: &impl Env, suffix: &[u8]) -> Path
-    ensures { IsPrefixLen result.len result.bytes }
-{
-    let mut bytes = io::buffer();
-    let n = argument(rt, 4, &mut bytes);
-    extend(&mut bytes, n, suffix);
-    let len = files::within(n + suffix.len(), &bytes);
-    Path { bytes, len }
+// Refuses a copy of which one file cannot be made without overwriting one.
+fn check_free(rt: &(impl Files + Eprint), paths: &Paths) -> Result<(), Failure> {
+    files::check_free(rt, WHO, &paths.strip)?;
+    files::check_free(rt, WHO, &paths.png)?;
+    files::check_free(rt, WHO, &paths.report)
 }
 
-// Whether a file can be made without overwriting one.
-fn is_free(rt: &(impl Env + Files), suffix: &[u8]) -> bool {
-    let path = path_of(rt, suffix);
-    let bytes = path.bytes;
-    let len = path.len;
-    files::is_free(rt, &WHO, &bytes[..len])
-}
-
-// Makes a file.
-fn keep(rt: &(impl Env + Files<File = File>), suffix: &[u8], content: &[u8]) -> bool {
-    let path = path_of(rt, suffix);
-    let bytes = path.bytes;
-    let len = path.len;
-    files::write_new(rt, &WHO, &bytes[..len], content)
-}
-
-// Removes a file that was made.
-fn remove(rt: &(impl Env + Files), suffix: &[u8]) {
-    let path = path_of(rt, suffix);
-    let bytes = path.bytes;
-    let len = path.len;
-    files::remove(rt, &WHO, &bytes[..len]);
-}
-
-// Whether all three can be made.
-fn all_free(rt: &(impl Env + Files)) -> bool {
-    if !is_free(rt, b".strip") {
-        return false;
-    }
-    if !is_free(rt, b".png") {
-        return false;
-    }
-    is_free(rt, b".report")
+// Removes a file that was made before another failed.
+fn undo(
+    rt: &(impl Files + Eprint + AllocGlobal),
+    path: &[u8],
+    failure: Failure,
+) -> Result<(), Failure> {
+    files::remove(rt, WHO, path)?;
+    Err(failure)
 }
 
 // Makes the picture and the report behind the strip; where one of them fails, what was made before it is removed.
-fn keep_rest(rt: &(impl Env + Files<File = File>), png: &[u8], report: &[u8]) -> bool {
-    if !keep(rt, b".png", png) {
-        return false;
-    }
-    if keep(rt, b".report", report) {
-        return true;
-    }
-    remove(rt, b".png");
-    false
+fn keep_rest(
+    rt: &(impl Files<File = File> + Eprint + AllocGlobal),
+    paths: &Paths,
+    png: &[u8],
+    report: &[u8],
+) -> Result<(), Failure> {
+    files::write_new(rt, WHO, &paths.png, png)?;
+    files::write_new(rt, WHO, &paths.report, report).or_else(|failure| undo(
+        rt, &paths.png, failure,
+    ))
 }
 
 // Makes all three, the report last: a copy without its report is not whole.
-fn keep_all(rt: &(impl Env + Files<File = File>), strip: &[u8], png: &[u8], report: &[u8]) -> bool {
-    if !keep(rt, b".strip", strip) {
-        return false;
-    }
-    if keep_rest(rt, png, report) {
-        return true;
-    }
-    remove(rt, b".strip");
-    false
+fn keep_all(
+    rt: &(impl Files<File = File> + Eprint + AllocGlobal),
+    paths: &Paths,
+    strip: &[u8],
+    png: &[u8],
+    report: &[u8],
+) -> Result<(), Failure> {
+    files::write_new(rt, WHO, &paths.strip, strip)?;
+    keep_rest(rt, paths, png, report).or_else(|failure| undo(rt, &paths.strip, failure))
 }
 
 // The record.
 
+// The bytes of a report.
+fn bytes_of(text: &Text) -> &[u8] {
+    let bytes = &text.bytes[..];
+    &bytes[..text.len.min(bytes.len())]
+}
+
 // Prints what the clerk is told of the record.
-fn print(report: &[u8]) {
-    if !io::write_all(STDOUT_FILENO, report) {
-        io::write_all(STDERR_FILENO, b"copy: the output is not whole\n");
+fn print(rt: &(impl Print + Eprint), report: &[u8]) {
+    if rt.write_all(report).is_err() {
+        let _ = eprintln!(rt; "copy: the output is not whole");
     }
 }
 
-// Prints the report of a refused record: the sheet's own refusal, or this answer.
-fn refuse(sheet: &[u8], answer: Answer) {
-    let text = report_text::report_after(sheet, answer);
-    let bytes = text.bytes;
-    let len = files::within(text.len, &bytes);
-    print(&bytes[..len]);
+// Keeps what was made of an accepted record, and prints its report once all of it is on the disk.
+fn finish(
+    rt: &(impl Files<File = File> + Print + Eprint + AllocGlobal),
+    name: &[u8],
+    sheet: &[u8],
+    strip: &[u8],
+    png: &[u8],
+) -> Result<(), Failure> {
+    let text = report_text::report(sheet);
+    let report = bytes_of(&text);
+    let paths = Paths::of(rt, name)?;
+    check_free(rt, &paths)?;
+    keep_all(rt, &paths, strip, png, report)?;
+    print(rt, report);
+    Ok(())
 }
 
-// Keeps what was made of an accepted record, and prints its report once all of it is on the disk.
-fn finish(rt: &(impl Env + Files<File = File>), sheet: &[u8], strip: &[u8], png: &[u8]) {
-    let text = report_text::report(sheet);
-    let bytes = text.bytes;
-    let len = files::within(text.len, &bytes);
-    if all_free(rt) {
-        if keep_all(rt, strip, png, &bytes[..len]) {
-            print(&bytes[..len]);
+// Makes the strip, which is lent, and the picture of what is shown; or answers who refused, the sheet first.
+fn make<'a>(
+    sheet: &[u8],
+    image: &[u8],
+    font: &[u8],
+    strip: &'a mut [u8],
+    png: &mut [u8],
+) -> Result<&'a [u8], Refusal> {
+    let mut frame = [0u8; FRAME_LENGTH];
+    let taken = intake::settings_of(sheet);
+    let settings = taken.settings;
+    let look = settings.look;
+    taken.answer?;
+    screen::show(settings, image, font, strip, &mut frame)?;
+    picture::encode(settings::border(look), &frame, png)?;
+    Ok(&strip[..settings::strip_length(look).min(strip.len())])
+}
+
+// Copies a record, or prints the report of a refused one: the sheet's own refusal, or what came after it.
+fn copy(
+    rt: &(impl Files<File = File> + Print + Eprint + AllocGlobal),
+    sheet: &[u8],
+    image: &[u8],
+    font: &[u8],
+    name: &[u8],
+) -> Result<(), Failure> {
+    let mut strip = [0u8; 6144];
+    let mut png = [0u8; FILE_LENGTH];
+    match make(sheet, image, font, &mut strip, &mut png) {
+        Ok(strip) => finish(rt, name, sheet, strip, &png),
+        Err(refusal) => {
+            let text = report_text::report_after(sheet, Err(refusal));
+            print(rt, bytes_of(&text));
+            Ok(())
         }
     }
 }
 
-// Makes the picture of what is shown, and keeps it with the strip.
-fn picture_of(
-    rt: &(impl Env + Files<File = File>),
-    sheet: &[u8],
-    border: u8,
-    strip: &[u8],
-    frame: &[u8],
-) {
-    let mut png = [0u8; FILE_LENGTH];
-    let answer = picture::encode(border, frame, &mut png);
-    if answer::number(answer) != 0 {
-        refuse(sheet, answer);
-        return;
-    }
-    finish(rt, sheet, strip, &png);
-}
-
-// Copies a record by the settings that its sheet gives.
-fn show(
-    rt: &(impl Env + Files<File = File>),
-    sheet: &[u8],
-    settings: Settings,
-    image: &[u8],
-    font: &[u8],
-) {
-    let mut strip = [0u8; 6144];
-    let mut frame = [0u8; FRAME_LENGTH];
-    let answer = screen::show(settings, image, font, &mut strip, &mut frame);
-    if answer::number(answer) != 0 {
-        refuse(sheet, answer);
-        return;
-    }
-    let look = settings.look;
-    let len = files::within(settings::strip_length(look), &strip);
-    picture_of(rt, sheet, settings::border(look), &strip[..len], &frame);
-}
-
-// Copies a record.
-fn record(rt: &(impl Env + Files<File = File>), sheet: &[u8], image: &[u8], font: &[u8]) {
-    let taken = intake::settings_of(sheet);
-    let answer = taken.answer;
-    if answer::number(answer) != 0 {
-        refuse(sheet, answer);
-        return;
-    }
-    show(rt, sheet, taken.settings, image, font);
-}
-
 // The arguments.
 
-// Whether the third argument says that there is no font.
-fn no_font(rt: &impl Env) -> bool {
-    let mut word = io::buffer();
-    let n = argument(rt, 3, &mut word);
-    (n == 1) & (word[0] == b'-')
-}
-
-// Whether a name is given for the copy, and one that the system can take.
-fn name_given(rt: &impl Env) -> bool {
-    let mut name = io::buffer();
-    0 < argument(rt, 4, &mut name)
+// Reads the font, which is `-` where none is needed.
+fn read_font<'a>(
+    rt: &(impl Files<File = File> + Eprint + AllocGlobal),
+    path: &[u8],
+    room: &'a mut [u8],
+) -> Result<&'a [u8], Failure> {
+    match path {
+        b"-" => Ok(&room[..0]),
+        _ => files::read(rt, WHO, path, room),
+    }
 }
 
 // Each file is read with a byte more than the longest that can be accepted: what lies past that changes nothing.
+fn by_names(
+    rt: &(impl Files<File = File> + Print + Eprint + AllocGlobal),
+    sheet: &[u8],
+    image: &[u8],
+    font: &[u8],
+    name: &[u8],
+) -> Result<(), Failure> {
+    let mut sheet_room = [0u8; 28160];
+    let mut image_room = [0u8; 65537];
+    let mut font_room = [0u8; 4096];
+    let sheet = files::read(rt, WHO, sheet, &mut sheet_room)?;
+    let image = files::read(rt, WHO, image, &mut image_room)?;
+    let font = read_font(rt, font, &mut font_room)?;
+    copy(rt, sheet, image, font, name)
+}
 
-// Copies a record with the font that is named.
-fn with_font(rt: &(impl Env + Files<File = File>), sheet: &[u8], image: &[u8]) {
-    if no_font(rt) {
-        record(rt, sheet, image, b"");
-        return;
-    }
-    let mut font = [0u8; 4096];
-    let found = read_arg(rt, &WHO, 3, &mut font);
-    if found.whole {
-        let len = found.len;
-        record(rt, sheet, image, &font[..len]);
+// Copies the record of four arguments; a fifth is enough to see that there are too many.
+fn run(rt: &(impl Env + Files<File = File> + Print + Eprint + AllocGlobal)) -> Result<(), Failure> {
+    let given = files::arguments(rt, 5, LONGEST_PATH)?;
+    match given.as_slice() {
+        [sheet, image, font, name] if !name.is_empty() => by_names(rt, sheet, image, font, name),
+        _ => {
+            let _ = eprintln!(rt;
+                "copy: give SHEET IMAGE FONT NAME; FONT is - where no font is needed"
+            );
+            Ok(())
+        }
     }
 }
 
-// Copies a record with the image that is named.
-fn with_image(rt: &(impl Env + Files<File = File>), sheet: &[u8]) {
-    let mut image = [0u8; 65537];
-    let found = read_arg(rt, &WHO, 2, &mut image);
-    if found.whole {
-        let len = found.len;
-        with_font(rt, sheet, &image[..len]);
-    }
-}
-
-fn main(rt: HostRuntime) {
-    if !is_given(&rt, 4) | is_given(&rt, 5) | !name_given(&rt) {
-        io::write_all(
-            STDERR_FILENO,
-            b"copy: give SHEET IMAGE FONT NAME; FONT is - where no font is needed\n",
-        );
-        return;
-    }
-    let mut sheet = [0u8; 28160];
-    let found = read_arg(&rt, &WHO, 1, &mut sheet);
-    if found.whole {
-        let len = found.len;
-        with_image(&rt, &sheet[..len]);
+// What failed of a file has been told; only a lack of memory is left to say.
+fn main(rt: HostRuntime) -> Result<(), AllocError> {
+    match run(&rt) {
+        Ok(()) | Err(Failure::Told) => Ok(()),
+        Err(Failure::OutOfMemory(error)) => Err(error),
     }
 }

@@ -54,10 +54,7 @@ fn kept_from(v: usize) -> u16
 fn clearing_counts(rule: Rule) -> bool
     ensures { result ≡ clearing_counts rule }
 {
-    match rule {
-        Rule::One => false,
-        Rule::Two => true,
-    }
+    matches!(rule, Rule::Two)
 }
 
 // Whether a line's end clears B4.
@@ -155,7 +152,7 @@ impl Counter {
             return Counter {
                 address: run,
                 x: x + 1,
-                y: y,
+                y,
             };
         }
         // B4 rises
@@ -163,7 +160,7 @@ impl Counter {
             return Counter {
                 address: next,
                 x: 0,
-                y: y,
+                y,
             };
         }
         // B4 falls. `fall` is written out here: a counter that a call returns is packed, which makes fetching slower

@@ -3,11 +3,7 @@
 
 const STDIN_FILENO: i32 = 0;
 
-const STDOUT_FILENO: i32 = 1;
-
-const STDERR_FILENO: i32 = 2;
-
-fn main() {
+fn main(rt: HostRuntime) {
     let sheet = b"deed=K-104\npins=20\nwrites=3\nat=FFC1\nat=FFC9\nat=FFD6\n";
     let taken = intake::settings_of(sheet);
     let mut image = [0u8; 4096];
@@ -15,14 +11,9 @@ fn main() {
     let mut frame = [0u8; 49152];
     let n = io::read_full(STDIN_FILENO, &mut image);
     let answer = screen::show(taken.settings, &image[..n], b"", &mut strip, &mut frame);
-    if answer::number(answer) != 0 {
-        io::write_all(
-            STDERR_FILENO,
-            b"example: the input is no image of 4096 bytes\n",
-        );
-        return;
-    }
-    if !io::write_all(STDOUT_FILENO, &frame) {
-        io::write_all(STDERR_FILENO, b"example: the output is not whole\n");
+    if answer.is_err() {
+        let _ = eprintln!(rt; "example: the input is no image of 4096 bytes");
+    } else if rt.write_all(&frame).is_err() {
+        let _ = eprintln!(rt; "example: the output is not whole");
     }
 }

@@ -1,12 +1,11 @@
 -- Graphics by a table: the eight dots of a byte, stretched, are the dots that the look shows.
-use Prim.Native.Nat.{ℕ, ◌+◌, ◌*◌, ◌/◌, ◌%◌, ◌<◌, zero-le}
+use Prim.Native.Nat.{ℕ, ◌+◌, ◌*◌, ◌/◌, ◌%◌, ◌<◌}
 use mathlib.Core.Path.{◌≡◌, sym, ap, ◌∙◌}
 use mathlib.Core.Bool.{true}
 use mathlib.Core.List.{List}
 use mathlib.Core.Logic.{⊎_elim}
 use native.Mathlib.Omega.{arith}
 use lib.ListN.{get_or}
-use Rattle.promises.specs.Written.{Filled}
 use Rattle.settings.specs.declared.Look.{Look}
 use Rattle.settings.specs.Fields.{graphics, css}
 use Rattle.settings.specs.Modes.{dots}
@@ -37,10 +36,10 @@ module _ (l : Look) (g : graphics l ≡ true) (s : ℕ) (h : Stretch s) (w : bre
       halves t = ⊎_elim (λ e. rw e (omega arith)) (λ e. rw e (omega arith)) h
 
   -- so a table of shades, by way of the strip, is the picture
-  pub plotted_graphic : (S T x : List ℕ) → Filled (λ (n : ℕ). shade l (n / 8) (n % 8)) 0 2048 x T → ((j : ℕ) → get_or S j 0 < 256)
+  pub plotted_graphic : (S T : List ℕ) → ((n : ℕ) → n < 2048 → get_or T n 0 ≡ shade l (n / 8) (n % 8)) → ((j : ℕ) → get_or S j 0 < 256)
       → (k : ℕ) → plotted s T S k ≡ graphic l (get_or S (owner l k) 0) (dot l k)
   unfolding plotted
-  plotted_graphic S T x f byte k =
+  plotted_graphic S T f byte k =
       let i : owner l k ≡ k / (8 * s) = owner_div l k ∙ ap (λ (d : ℕ). k / d) w in
       let t : dot l k ≡ k % (8 * s) = dot_mod l k ∙ ap (λ (d : ℕ). k % d) w in
       rw (i, t) (entry (get_or S (k / (8 * s)) 0) (k % (8 * s) / s) (byte (k / (8 * s))) (dot_of_lem h k) ∙ sym (stretched (get_or S (k / (8 * s)) 0) (k % (8 * s))))
@@ -49,4 +48,4 @@ module _ (l : Look) (g : graphics l ≡ true) (s : ℕ) (h : Stretch s) (w : bre
       entry b u m n =
           let q : (b * 8 + u) / 8 ≡ b = omega arith in
           let r : (b * 8 + u) % 8 ≡ u = omega arith in
-          f.is (b * 8 + u) zero-le (omega arith) ∙ rw (q, r)
+          f (b * 8 + u) (omega arith) ∙ rw (q, r)

@@ -5,35 +5,16 @@ use mathlib.Core.List.{List}
 use mathlib.Core.Logic.{⊎_elim}
 use native.Mathlib.Omega.{arith}
 use lib.ListN.{get_or}
-use Rattle.settings.specs.Refusals.{frame_length}
 use Rattle.frame.specs.Steps.{Stretch, plotted}
 
 module _ {s : ℕ} (h : Stretch s) where
-  pub stretch_pos : 0 < s
-  stretch_pos = ⊎_elim (λ e. omega arith) (λ e. omega arith) h
-
-  pub stretch_le : s ≤ 2
-  stretch_le = ⊎_elim (λ e. omega arith) (λ e. omega arith) h
-
   -- eight dots are shown by 8 × s pixels
-  pub dot_below : (t : ℕ) → t < 8 * s → t / s < 8
-  dot_below t = ⊎_elim (λ e. rw e (λ l. omega arith)) (λ e. rw e (λ l. omega arith)) h
-
   pub dot_of_lem : (k : ℕ) → k % (8 * s) / s < 8
   dot_of_lem k = ⊎_elim (λ e. rw e (omega arith)) (λ e. rw e (omega arith)) h
 
-  -- and a line's bytes by its 256
-  pub line_end : (n : ℕ) → n * 256 + 32 / s * (8 * s) ≡ n * 256 + 256
-  line_end n = ⊎_elim (λ e. rw e (omega arith)) (λ e. rw e (omega arith)) h
-
+  -- and the next byte's follow them
   pub cell_end : (n c : ℕ) → n * 256 + c * (8 * s) + 8 * s ≡ n * 256 + (c + 1) * (8 * s)
   cell_end n c = ⊎_elim (λ e. rw e (omega arith)) (λ e. rw e (omega arith)) h
-
-  pub cell_within : (n c : ℕ) → n < 192 → c < 32 / s → n * 256 + c * (8 * s) + 8 * s ≤ frame_length
-  cell_within n c = ⊎_elim (λ e. rw e (λ l m. omega arith)) (λ e. rw e (λ l m. omega arith)) h
-
-  pub byte_within : (n c : ℕ) → n < 192 → c < 32 / s → (n * (32 / s) + c < 192 * (32 / s)) × (n * (32 / s) + c < 6144)
-  byte_within n c = ⊎_elim (λ e. rw e (λ l m. omega arith)) (λ e. rw e (λ l m. omega arith)) h
 
   -- the pixels of byte c of line n
   pub cell : (T S : List ℕ) (n c r : ℕ) → r ≡ get_or S (n * (32 / s) + c) 0

@@ -1,5 +1,5 @@
 -- Text by tables: the lit dots of a byte's rows, tinted, are the dots that the look shows.
-use Prim.Native.Nat.{ℕ, ◌+◌, ◌-◌, ◌*◌, ◌/◌, ◌%◌, ◌≤◌, ◌<◌, zero-le}
+use Prim.Native.Nat.{ℕ, ◌+◌, ◌-◌, ◌*◌, ◌/◌, ◌%◌, ◌≤◌, ◌<◌}
 use mathlib.Core.Path.{◌≡◌, refl, sym, ap, ◌∙◌}
 use mathlib.Core.Bool.{Bool, true, false}
 use mathlib.Core.List.{List}
@@ -8,7 +8,6 @@ use lib.Bits.{bit_and, and_mask}
 use lib.Dec.{eqb}
 use lib.ListN.{get_or}
 use Rattle.promises.specs.Choose.{choose}
-use Rattle.promises.specs.Written.{Filled}
 use Rattle.settings.specs.declared.Look.{Look}
 use Rattle.settings.specs.Fields.{graphics}
 use Rattle.pixel.specs.Dots.{black, bit, one_bit}
@@ -60,10 +59,10 @@ module _ (l : Look) (G S : List ℕ) where
       rw (q, r, t, ha, hm)
 
   -- so the table of rows, by way of the strip, is the picture
-  pub typed_picture : (font x : List ℕ) → graphics l ≡ false → Filled (λ (n : ℕ). lit l font (n / 12) (n % 12)) 0 3072 x G → ((j : ℕ) → get_or S j 0 < 256)
+  pub typed_picture : (font : List ℕ) → graphics l ≡ false → ((n : ℕ) → n < 3072 → get_or G n 0 ≡ lit l font (n / 12) (n % 12)) → ((j : ℕ) → get_or S j 0 < 256)
       → (k : ℕ) → typed l G S k ≡ picture l font S k
   unfolding typed
-  typed_picture font x g f byte k =
+  typed_picture font g f byte k =
       let w : breadth l ≡ 8 = ap (λ (n : ℕ). 256 / n) (text_width l g) in
       let i : owner l k ≡ k / 8 = owner_div l k ∙ ap (λ (d : ℕ). k / d) w in
       let t : dot l k ≡ k % 8 = dot_mod l k ∙ ap (λ (d : ℕ). k % d) w in
@@ -74,7 +73,7 @@ module _ (l : Look) (G S : List ℕ) where
           let h : get_or S (k / 8) 0 < 256 = byte (k / 8) in
           let q : (get_or S (k / 8) 0 * 12 + k / 256 % 12) / 12 ≡ get_or S (k / 8) 0 = omega arith in
           let r : (get_or S (k / 8) 0 * 12 + k / 256 % 12) % 12 ≡ k / 256 % 12 = omega arith in
-          f.is (get_or S (k / 8) 0 * 12 + k / 256 % 12) zero-le (omega arith) ∙ rw (q, r)
+          f (get_or S (k / 8) 0 * 12 + k / 256 % 12) (omega arith) ∙ rw (q, r)
 
 -- row `row` of byte b in the table of rows
 pub row_of : (l : Look) (font : List ℕ) (b r row : ℕ) → row < 12 → r ≡ b → lit l font b row ≡ lit l font ((r * 12 + row) / 12) ((r * 12 + row) % 12)

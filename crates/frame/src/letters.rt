@@ -9,7 +9,7 @@ ghost use Rattle.pixel.specs.Picture.{picture};
 ghost use Rattle.pixel.specs.Text.{lower, pattern, inverted, letter, block, lit, ink};
 ghost use Rattle.frame.specs.Steps.{typed};
 
-use crate::tables::{by_bits, wide};
+use crate::tables::by_bits;
 use settings::Look;
 
 // Whether a letter is lower case: in internal text with GM0 = 1, below 32.
@@ -20,43 +20,33 @@ fn lower(look: Look, b: u8) -> bool
 }
 
 // Which pattern of the font a letter shows.
+#[tactic(auto, unfolding(pixel::specs::Text::pattern))]
 fn pattern(look: Look, b: u8) -> usize
     ensures { result ≡ pattern look b }
 {
     if settings::external(look) {
-        return wide(b);
+        return usize::from(b);
     }
     if lower(look, b) {
-        64 + wide(b)
+        64 + usize::from(b)
     } else {
-        wide(b % 64)
+        usize::from(b % 64)
     }
 }
 
 // 1 where a letter is inverted, else 0.
+#[tactic(auto, unfolding(pixel::specs::Text::inverted))]
 fn inverted(look: Look, b: u8) -> usize
     ensures { result ≡ inverted look b }
 {
     if lower(look, b) {
         return 1;
     }
-    wide(b / 64 % 2)
-}
-
-// A letter's lit dots on a row.
-fn letter(look: Look, font: &[u8], b: u8, row: usize) -> u8
-    requires { (length font.now ≡ font_size look) × (row < 12) }
-    ensures { result ≡ letter look font.now b row }
-{
-    let dots = font[pattern(look, b) * 12 + row];
-    if inverted(look, b) == settings::gm(look) / 2 % 2 {
-        dots
-    } else {
-        255 - dots
-    }
+    usize::from(b / 64 % 2)
 }
 
 // The lit dots of Semigraphics 4 on a row.
+#[tactic(auto, unfolding(pixel::specs::Text::block))]
 fn block(look: Look, b: u8, row: usize) -> u8
     ensures { result ≡ block look b row }
 {
@@ -66,18 +56,8 @@ fn block(look: Look, b: u8, row: usize) -> u8
     240 * (b / 2 % 2) + 15 * (b % 2)
 }
 
-// A byte's lit dots on a row.
-fn lit(look: Look, font: &[u8], b: u8, row: usize) -> u8
-    requires { (length font.now ≡ font_size look) × (row < 12) }
-    ensures { result ≡ lit look font.now b row }
-{
-    if b < 128 {
-        return letter(look, font, b, row);
-    }
-    block(look, b, row)
-}
-
 // The colour of a byte's lit dots.
+#[tactic(auto, unfolding(pixel::specs::Text::ink))]
 fn ink(look: Look, b: u8) -> u8
     ensures { (result ≡ ink look b) × (result < 8) }
 {
@@ -87,71 +67,110 @@ fn ink(look: Look, b: u8) -> u8
     b / 16 % 8
 }
 
-// Puts the lit dots of a byte on its twelve rows into the table.
-fn glyph(look: Look, font: &[u8], b: u8, glyphs: &mut [u8; 3072])
-    requires { (length font.now ≡ font_size look) × (length glyphs.old ≡ 3072) }
-    ensures { Filled (λ n. lit look font.now (n / 12) (n % 12)) (b * 12) (b * 12 + 12) glyphs.old glyphs.new }
-{
-    let at = wide(b) * 12;
-    let mut row: usize = 0;
-    while row < 12 {
-        glyphs[at + row] = lit(look, font, b, row);
-        row += 1;
-    }
-}
-
-// Fills the table with the lit dots of every byte on its twelve rows.
-fn glyphs(look: Look, font: &[u8], glyphs: &mut [u8; 3072])
-    requires { (length font.now ≡ font_size look) × (length glyphs.old ≡ 3072) }
-    ensures { Filled (λ n. lit look font.now (n / 12) (n % 12)) 0 3072 glyphs.old glyphs.new }
-{
-    let mut b: usize = 0;
-    while b < 256 {
-        glyph(look, font, b as u8, glyphs);
-        b += 1;
-    }
-}
-
-// Puts eight dots into the frame, in `ink` where they are lit and else black, 8: the mask of a lit dot takes the difference of the two off 8.
-fn tint(masks: &[u8; 2048], lit: u8, ink: u8, frame: &mut [u8], at: usize)
-    requires ink_bound { (ink < 8) × (at + 8 ≤ length frame.old) }
-    requires by_index { (n : ℕ) → n < 2048 → get_or masks.now n 0 ≡ one_bit 255 0 (n / 8) (n % 8) }
-    ensures { Filled (λ k. one_bit ink black lit (k - at)) at (at + 8) frame.old frame.new }
-{
-    let from = wide(lit) * 8;
-    let difference = 8 - ink;
-    let mut t: usize = 0;
-    while t < 8 {
-        frame[at + t] = 8 - (difference & masks[from + t]);
-        t += 1;
-    }
-}
-
-// Draws line n of a text frame.
-fn text_line(
+// A font of the length that the look asks for.
+#[derive(Drop)]
+struct Font<'a> {
     look: Look,
-    masks: &[u8; 2048],
-    glyphs: &[u8; 3072],
-    strip: &[u8],
-    n: usize,
-    frame: &mut [u8],
-)
-    requires n_bound { (n < 192) × (6144 ≤ length strip.now) × (frame_length ≤ length frame.old) }
-    requires by_index { (j : ℕ) → j < 2048 → get_or masks.now j 0 ≡ one_bit 255 0 (j / 8) (j % 8) }
-    ensures { Filled (typed look glyphs.now strip.now) (n * 256) (n * 256 + 256) frame.old frame.new }
-{
-    let row = n % 12;
-    let mut c: usize = 0;
-    while c < 32 {
-        let b = strip[n * 32 + c];
-        tint(
-            masks,
-            glyphs[wide(b) * 12 + row],
-            ink(look, b),
-            frame,
-            n * 256 + c * 8,
-        );
-        c += 1;
+    patterns: &'a [u8],
+    ghost whole: { length patterns.now ≡ font_size look },
+}
+
+impl<'a> Font<'a> {
+    // A letter's lit dots on a row.
+    fn letter(&self, b: u8, row: usize) -> u8
+        requires { row < 12 }
+        ensures { result ≡ letter self.now.look self.now.patterns.now b row }
+    {
+        let dots = self.patterns[pattern(self.look, b) * 12 + row];
+        if inverted(self.look, b) == settings::gm(self.look) / 2 % 2 {
+            dots
+        } else {
+            255 - dots
+        }
+    }
+
+    // A byte's lit dots on a row.
+    #[tactic(auto, unfolding(pixel::specs::Text::lit))]
+    fn lit(&self, b: u8, row: usize) -> u8
+        requires { row < 12 }
+        ensures { result ≡ lit self.now.look self.now.patterns.now b row }
+    {
+        if b < 128 {
+            return self.letter(b, row);
+        }
+        block(self.look, b, row)
+    }
+
+    // Puts the lit dots of a byte on its twelve rows into the table.
+    fn glyph(&self, b: u8, rows: &mut [u8; 3072])
+        ensures { Filled (λ n. lit self.now.look self.now.patterns.now (n / 12) (n % 12)) (b * 12) (b * 12 + 12) rows.old rows.new }
+    {
+        let at = usize::from(b) * 12;
+        for row in 0..12 {
+            rows[at + row] = self.lit(b, row);
+        }
+    }
+
+    // The lit dots of every byte on its twelve rows.
+    fn glyphs(&self) -> [u8; 3072]
+        ensures { (n : ℕ) → n < 3072 → get_or result n 0 ≡ lit self.now.look self.now.patterns.now (n / 12) (n % 12) }
+    {
+        let mut rows = [0u8; 3072];
+        for b in 0..256usize {
+            self.glyph(b as u8, &mut rows);
+        }
+        rows
+    }
+}
+
+// For every byte its eight bits from the left, 255 for 1 and 0 for 0.
+#[derive(Drop)]
+struct Masks {
+    of_bits: [u8; 2048],
+    ghost by_index: { (n : ℕ) → n < 2048 → get_or of_bits n 0 ≡ one_bit 255 0 (n / 8) (n % 8) },
+}
+
+impl Masks {
+    fn new() -> Masks {
+        Masks {
+            of_bits: by_bits(255, 0),
+        }
+    }
+
+    // Puts eight dots into the frame, in `ink` where they are lit and else black, 8: the mask of a lit dot takes the difference of the two off 8.
+    fn tint(&self, lit: u8, ink: u8, frame: &mut [u8], at: usize)
+        requires { (ink < 8) × (at + 8 ≤ length frame.old) }
+        ensures { Filled (λ k. one_bit ink black lit (k - at)) at (at + 8) frame.old frame.new }
+    {
+        let from = usize::from(lit) * 8;
+        let difference = 8 - ink;
+        for t in 0..8 {
+            frame[at + t] = 8 - (difference & self.of_bits[from + t]);
+        }
+    }
+}
+
+// What a text frame is drawn by: its look, the lit dots of every byte's rows, and the masks that tint them.
+#[derive(Drop)]
+struct Letters {
+    look: Look,
+    rows: [u8; 3072],
+    masks: Masks,
+}
+
+impl Letters {
+    // Draws line n of a text frame.
+    fn line(&self, strip: &[u8], n: usize, frame: &mut [u8])
+        requires { (n < 192) × (6144 ≤ length strip.now) × (frame_length ≤ length frame.old) }
+        ensures { Filled (typed self.now.look self.now.rows strip.now) (n * 256) (n * 256 + 256) frame.old frame.new }
+    {
+        let row = n % 12;
+        for c in 0..32 {
+            let b = strip[n * 32 + c];
+            let lit = self.rows[usize::from(b) * 12 + row];
+            self.masks
+                .tint(lit, ink(self.look, b), frame, n * 256 + c * 8);
+        }
     }
 }
 
@@ -160,13 +179,16 @@ pub(crate) fn text(look: Look, font: &[u8], strip: &[u8], frame: &mut [u8])
     requires { (graphics look ≡ false) × (length font.now ≡ font_size look) × (6144 ≤ length strip.now) × (frame_length ≤ length frame.old) }
     ensures { Filled (picture look font.now strip.now) 0 frame_length frame.old frame.new }
 {
-    let mut masks = [0u8; 2048];
-    by_bits(255, 0, &mut masks);
-    let mut rows = [0u8; 3072];
-    glyphs(look, font, &mut rows);
-    let mut line: usize = 0;
-    while line < 192 {
-        text_line(look, &masks, &rows, strip, line, frame);
-        line += 1;
+    let font = Font {
+        look,
+        patterns: font,
+    };
+    let letters = Letters {
+        look,
+        rows: font.glyphs(),
+        masks: Masks::new(),
+    };
+    for n in 0..192 {
+        letters.line(strip, n, frame);
     }
 }

@@ -19,21 +19,21 @@ use answer::Answer;
 use graphics::plot;
 use letters::text;
 use settings::Look;
-use tables::wide;
 
 // The answer, by the look, the three lengths, and the bytes that are drawn.
 fn draw_answer(look: Look, font: usize, strip: &[u8], frame: usize) -> Answer
     ensures { told_of result ≡ first_of (draw_lengths look font (length strip.now) frame ++ draw_bytes look (λ k. get_or strip.now k 0)) (done (border look)) }
 {
-    let mut answer = Answer::Done(wide(settings::border(look)));
-    answer = settings::pins_above(answer, look);
-    answer = settings::font_length(answer, look, font);
-    answer = settings::short_strip(answer, look, strip.len());
-    answer = settings::short_frame(answer, frame);
-    valid::not_valid(answer, look, strip)
+    settings::pins_above(look)?;
+    settings::font_length(look, font)?;
+    settings::short_strip(look, strip.len())?;
+    settings::short_frame(frame)?;
+    valid::not_valid(look, strip)?;
+    Ok(usize::from(settings::border(look)))
 }
 
 // Draws the picture, where nothing is refused.
+// Kept as slices whose lengths each contract names: because `draw` is lent strips and frames of any length.
 fn paint(look: Look, font: &[u8], strip: &[u8], frame: &mut [u8])
     requires { DrawFits look (length font.now) (length strip.now) (length frame.old) }
     ensures { Filled (picture look font.now strip.now) 0 frame_length frame.old frame.new }
@@ -50,10 +50,7 @@ pub fn draw(look: Look, font: &[u8], strip: &[u8], frame: &mut [u8]) -> Answer
     ensures answer { told_of result ≡ draw_told look font.now strip.now frame.old }
     ensures frame { frame.new ≡ frame_after look font.now strip.now frame.old }
 {
-    let answer = draw_answer(look, font.len(), strip, frame.len());
-    if answer::number(answer) != 0 {
-        return answer;
-    }
+    let border = draw_answer(look, font.len(), strip, frame.len())?;
     paint(look, font, strip, frame);
-    answer
+    Ok(border)
 }

@@ -11,8 +11,7 @@ use lib.Seq.{take-append_seam}
 use Rattle.promises.specs.Choose.{choose}
 use Rattle.promises.specs.Told.{Told, told, done}
 use Rattle.promises.specs.Order.{first_of}
-use Rattle.answer.specs.declared.Answer.{Answer}
-use Rattle.answer.specs.Told.{told_of}
+use Rattle.answer.specs.Told.{Answer, told_of}
 use Rattle.control.specs.Control.{played, first_elsewhere, play_told}
 use Rattle.text.specs.Code.{Reading, got, stuck}
 use Rattle.grammar.specs.Sheet.{Fields}

@@ -8,10 +8,11 @@ ghost use Rattle.answer.specs.Told.{told_of};
 ghost use Rattle.intake.specs.Intake.{setting_order, no_settings};
 ghost use Rattle.intake.specs.Taken.{Taken};
 
-use answer::Answer;
+use answer::{Answer, Refusal};
 use settings::{Look, Rule, Settings};
 
 // What is taken in of a sheet: the answer, the settings where it is Done, and the number of annotations of an accepted sheet.
+// Kept with the answer beside the settings: because `Taken`, the promise of `settings_of`, gives the annotations of a refusal too.
 #[derive(Clone, Copy)]
 pub struct Intake {
     pub answer: Answer,
@@ -20,11 +21,11 @@ pub struct Intake {
 }
 
 // A refusal, with no settings.
-fn refused(answer: Answer, annotations: usize) -> Intake
-    ensures { (result.answer ≡ answer) × (result.settings ≡ no_settings) × (result.annotations ≡ annotations) }
+fn refused(refusal: Refusal, annotations: usize) -> Intake
+    ensures { (result.answer ≡ Err refusal) × (result.settings ≡ no_settings) × (result.annotations ≡ annotations) }
 {
     Intake {
-        answer,
+        answer: Err(refusal),
         settings: Settings {
             word: 0,
             look: Look { pins: 0 },
@@ -38,10 +39,9 @@ fn refused(answer: Answer, annotations: usize) -> Intake
 fn settings_answer(settings: Settings) -> Answer
     ensures { told_of result ≡ first_of (setting_order settings) (done 0) }
 {
-    let look = settings.look;
-    let mut answer = Answer::Done(0);
-    answer = settings::pins_above(answer, look);
-    settings::fast_rate(answer, settings)
+    settings::pins_above(settings.look)?;
+    settings::fast_rate(settings)?;
+    Ok(0)
 }
 
 // The settings of a sheet; it is refused with 11, 10, 1, 4, in this order.
@@ -49,30 +49,26 @@ pub fn settings_of(sheet: &[u8]) -> Intake
     ensures { Taken sheet.now result }
 {
     let fields = sheet::read(sheet);
-    let read = fields.answer;
     let annotations = fields.annotations;
-    if answer::number(read) != 0 {
-        return refused(read, annotations);
+    if let Err(refusal) = fields.answer {
+        return refused(refusal, annotations);
     }
     let writes = fields.writes;
-    let count = fields.write_count;
-    let played = control::play(0, &writes[..count]);
-    if answer::number(played) != 0 {
-        return refused(played, annotations);
-    }
-    let rule = fields.rule;
-    let settings = Settings {
-        word: answer::value(played) as u16,
-        look: Look { pins: fields.pins },
-        rule,
+    let word = match control::play(0, &writes[..fields.write_count]) {
+        Ok(word) => word as u16,
+        Err(refusal) => return refused(refusal, annotations),
     };
-    let answer = settings_answer(settings);
-    if answer::number(answer) != 0 {
-        return refused(answer, annotations);
-    }
-    Intake {
-        answer,
-        settings,
-        annotations,
+    let settings = Settings {
+        word,
+        look: Look { pins: fields.pins },
+        rule: fields.rule,
+    };
+    match settings_answer(settings) {
+        Ok(done) => Intake {
+            answer: Ok(done),
+            settings,
+            annotations,
+        },
+        Err(refusal) => refused(refusal, annotations),
     }
 }

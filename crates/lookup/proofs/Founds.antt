@@ -9,6 +9,7 @@ use borrow.Author.Tests.{lt-ltb, le-ltb, ltb-true, ltb-false}
 use lib.Dec.{ltb}
 use lib.ListN.{length, take, drop, length-append}
 use lib.Seq.{drop-append_seam, drop-drop, take_at}
+use Rattle.std.proofs.Common.{Some, None}
 use Rattle.promises.specs.Choose.{choose}
 use Rattle.promises.proofs.Choices.{by_test}
 use Rattle.promises.proofs.Firsts.{first_le, first_at, first_none, first_before, first_holds, nowhere}
@@ -17,6 +18,7 @@ use Rattle.grammar.specs.Sheet.{eq, nl, same, Annotation, ValidAnnotation, line,
 use Rattle.grammar.specs.Given.{accepted, fields_in, tail_from, annotation_from, annotation_at}
 use Rattle.grammar.proofs.Keys.{same_eq, same_refl}
 use Rattle.grammar.proofs.Parts.{some_accepted, line_from, line_in}
+use Rattle.lookup.specs.declared.Span.{Span}
 use Rattle.lookup.specs.Lookup.{first_with, has_key, value_in, value_from}
 use Rattle.lookup.specs.Steps.{found_in}
 
@@ -24,6 +26,14 @@ use Rattle.lookup.specs.Steps.{found_in}
 past_last : (l : List Annotation) → (annotation_at l (length l)).value ≡ []
 past_last [] = refl
 past_last (a ∷ l) = past_last l
+
+-- where the key is held, what is found is its place
+abbrev span : ℕ → ℕ → Span
+span from size = record { from = from; size = size }
+
+some_by : (t : Bool) {from size from' size' : ℕ} → t ≡ true → from ≡ from' → size ≡ size' → Some (span from size) ≡ choose t (Some (span from' size')) None
+some_by true e a b = λ j. Some (span (a j) (b j))
+some_by false e a b = absurd (clash e refl)
 
 module _ (s k : List ℕ) where
   abbrev notes : List Annotation
@@ -66,12 +76,11 @@ module _ (s k : List ℕ) where
     value_is = ap (λ (n : ℕ). (annotation_at notes n).value) first_is
 
     pub found_here : (from size : ℕ) → from ≡ annotation_from s i + (length k + 1) → size ≡ length (annotation_at notes i).value
-        → record { found = true; from = from; size = size } ≡ found_in s k
+        → Some (record { from = from; size = size }) ≡ found_in s k
     found_here from size e z =
-        let h = key_held in
         let a = e ∙ sym value_from_lem in
         let b = z ∙ sym (ap length value_is) in
-        λ j. record { found = sym h j; from = a j; size = b j }
+        some_by (has_key s k) key_held a b
 
   -- where none has it, nothing is taken
   none_held : ((j : ℕ) → j < length notes → Has false j) → has_key s k ≡ false
@@ -86,12 +95,8 @@ module _ (s k : List ℕ) where
   no_value h =
       (ap (λ (b : Bool). choose b (annotation_from s (first_with s k) + length (k ++ eq)) 0) h, ap (λ (n : ℕ). (annotation_at notes n).value) (none_first h) ∙ past_last notes)
 
-  pub found_nowhere : ((j : ℕ) → j < length notes → Has false j) → record { found = false; from = 0; size = 0 } ≡ found_in s k
-  found_nowhere none =
-      let h = none_held none in
-      let z = no_value h in
-      let b = ap length z.1 in
-      λ j. record { found = sym h j; from = sym z.0 j; size = sym b j }
+  pub found_nowhere : ((j : ℕ) → j < length notes → Has false j) → None ≡ found_in s k
+  found_nowhere none = rw (none_held none)
 
   -- where one has it, it is the first that has, and its sheet is accepted
   module _ (h : has_key s k ≡ true) where

@@ -1,8 +1,9 @@
 -- What is told of a key in two sheets, and where its value lies, case by case in the order of refusals.
 use Prim.Native.Nat.{ℕ, ◌+◌, ◌≤◌, zero-le}
-use mathlib.Core.Path.{◌≡◌, refl, sym, ap, subst}
+use mathlib.Core.Path.{◌≡◌, refl, sym, ap, subst, ◌∙◌}
 use mathlib.Core.List.{List}
 use mathlib.Core.Bool.{Bool, true, false}
+use Rattle.std.proofs.Common.{Option, Some, None}
 use borrow.Author.Tests.{ne_eqb}
 use denote.Ref.{Bor}
 use lib.Dec.{eqb}
@@ -13,10 +14,10 @@ use Rattle.promises.specs.Part.{PartOf}
 use Rattle.promises.proofs.Choices.{of_both}
 use Rattle.promises.proofs.Parts.{part_move}
 use Rattle.grammar.specs.Given.{accepted, told_in}
-use Rattle.lookup.specs.declared.Found.{Found}
+use Rattle.lookup.specs.declared.Span.{Span}
 use Rattle.lookup.specs.declared.Piece.{Piece}
+use Rattle.lookup.specs.Steps.{found_in}
 use Rattle.lookup.specs.Lookup.{has_key, holder_told, piece_of, no_piece, held, HeldPart}
-use Rattle.lookup.specs.Steps.{found_in, piece_found}
 use Rattle.lookup.proofs.Founds.{stands}
 
 -- t is told of the record's own sheet, the cover and the key, and the value is the piece p
@@ -59,9 +60,27 @@ module _ (own cover key : List ℕ) where
   held_within =
       of_both Within (eqb (holder_told own cover key).number 0) (of_both Within (has_key own key) (stands own key).within (stands cover key).within) zero-le
 
--- what is found in a sheet, as the piece that it is
-pub found_piece : (b : Bool) (s key : List ℕ) (r : Found) → r ≡ found_in s key → piece_found b r ≡ piece_of b s key
-found_piece b s key r e = ap (piece_found b) e
+-- what is found in a sheet, and the piece that it is
+abbrev piece : Bool → Span → Piece
+piece b x = record { in_cover = b; from = x.from; size = x.size }
+
+some_is : (t : Bool) (y x : Span) → choose t (Some y) None ≡ Some x → (t ≡ true) × (y ≡ x)
+some_is true y x e = (refl, cc)
+some_is false y x e = absurd cc
+
+none_is : (t : Bool) (y : Span) → choose t (Some y) None ≡ None → t ≡ false
+none_is true y e = absurd cc
+none_is false y e = refl
+
+module _ (s key : List ℕ) {r : Option Span} (e : r ≡ found_in s key) where
+  pub found_key : (x : Span) → r ≡ Some x → has_key s key ≡ true
+  found_key x h = (some_is (has_key s key) _ x (sym e ∙ h)).0
+
+  pub found_piece : (b : Bool) (x : Span) → r ≡ Some x → piece_of b s key ≡ record { in_cover = b; from = x.from; size = x.size }
+  found_piece b x h = ap (piece b) (some_is (has_key s key) _ x (sym e ∙ h)).1
+
+  pub lost_key : r ≡ None → has_key s key ≡ false
+  lost_key h = none_is (has_key s key) _ (sym e ∙ h)
 
 -- the piece p that is held, of the cover or not: it lies within its sheet, and a part by its numbers is what is promised
 module _ (own cover : Bor (List ℕ)) (key : List ℕ) (p : Piece) (e : p ≡ held own.now cover.now key) (b : Bool) (h : p.in_cover ≡ b) where

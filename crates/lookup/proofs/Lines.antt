@@ -1,19 +1,23 @@
 -- An annotation's line by its bytes: where it ends, which key it has, and what one byte more says in the loops that look for both.
-use Prim.Native.Nat.{ℕ, suc, ◌+◌, ◌-◌, ◌≤◌, ◌<◌}
+use Prim.Native.Nat.{ℕ, zero, suc, ◌+◌, ◌≤◌}
 use native.Mathlib.Nat.{le_of_suc-le-suc}
 use native.Mathlib.Omega.{arith}
-use mathlib.Core.Path.{◌≡◌, refl, ◌∙◌, ap}
+use mathlib.Core.Path.{◌≡◌, refl, sym, ◌∙◌, ap}
 use mathlib.Core.List.{List, [], ◌∷◌, ◌++◌, append_assoc}
 use mathlib.Core.Bool.{Bool, true, false, not, ◌&&◌, ◌||◌}
 use mathlib.Core.Logic.{⊎_elim}
-use borrow.Author.Tests.{eq-eqb, ne_eqb, eqb-true, not-true, not-false}
-use lib.Dec.{eqb, leb}
-use lib.ListN.{length, drop, get_or, drop_of_length-le, length-append, length-drop}
-use Rattle.promises.proofs.Choices.{either, both_pass, and_false, neither}
+use borrow.Author.Tests.{eq-eqb, ne_eqb, eqb-true, eqb-false, not-true}
+use lib.Dec.{eqb, leb, ltb}
+use lib.ListN.{length, take, drop, length-append}
+use Rattle.std.proofs.Common.{Some, None, cond, nat_lt, ◌==◌}
+use Rattle.std.specs.List.{fold, list_any, position, position_or_len}
+use Rattle.std.specs.Cmp.Lexicographic.{pointwise}
+use Rattle.std.specs.Option.{unwrap_or}
+use Rattle.std.proofs.lemmas.Bool.Decides.{nat_tests}
+use Rattle.promises.proofs.Choices.{either, both_pass, and_false, of_both}
 use Rattle.text.specs.Combine.{All}
 use Rattle.text.specs.Hex.{between}
 use Rattle.text.proofs.Tests.{clash, between_le}
-use Rattle.text.proofs.Scans.{from_cons, left_cons}
 use Rattle.grammar.specs.Sheet.{key_byte, value_byte, eq, nl, same, Annotation, ValidAnnotation, line}
 use Rattle.lookup.specs.Steps.{to_line_end, keyed_by}
 
@@ -56,58 +60,85 @@ module _ (a : Annotation) (v : ValidAnnotation a) (x : List ℕ) where
   pub line_keyed : (k : List ℕ) → keyed_by k (line a ++ (nl ++ x)) ≡ same a.key k
   line_keyed k = ap (keyed_by k) (append_assoc a.key (eq ++ a.value) (nl ++ x)) ∙ key_is a.key k (a.value ++ (nl ++ x)) v.key_bytes
 
--- ---- the loops, byte by byte
-module _ (s : List ℕ) (i : ℕ) where
-  pub end_here : i < length s → get_or s i 0 ≡ 10 → to_line_end (drop i s) ≡ 0
-  end_here h e = ap to_line_end (from_cons s i h) ∙ rw (eq-eqb _ _ e)
+-- ---- the searches
+-- whether a line end is among some bytes, as a fold says it
+any_from : (a : Bool) (s : List ℕ) → fold (λ (ends : Bool) b. ends || (b == 10)) a s ≡ a || list_any (λ b. b == 10) s
+any_from true [] = refl
+any_from false [] = refl
+any_from true (b ∷ s) = any_from true s
+any_from false (b ∷ s) = any_from (b == 10) s
 
-  pub end_more : i < length s → (get_or s i 0 ≡ 10 → ⊥) → to_line_end (drop i s) ≡ suc (to_line_end (drop (i + 1) s))
-  end_more h e = ap to_line_end (from_cons s i h) ∙ rw (ne_eqb _ _ e)
+pub any_by : (s : List ℕ) → fold (λ (ends : Bool) b. ends || (b == 10)) false s ≡ list_any (λ b. b == 10) s
+any_by s = any_from false s
 
-  pub end_past : length s ≤ i → to_line_end (drop i s) ≡ 0
-  end_past h = rw (drop_of_length-le s h)
+-- where none is among the first n, the line goes on behind them
+goes_by : (b : ℕ) (n : ℕ) (s : List ℕ) (t : Bool) → eqb b 10 ≡ t → t || list_any (λ b. b == 10) (take n s) ≡ false
+    → (list_any (λ b. b == 10) (take n s) ≡ false → to_line_end s ≡ n + to_line_end (drop n s)) → to_line_end (b ∷ s) ≡ suc n + to_line_end (drop n s)
+goes_by b n s true e h f = absurd (clash refl h)
+goes_by b n s false e h f = rw e (omega (arith, f h))
 
--- t bytes further on
-pub end_start : (s : List ℕ) (at : ℕ) → to_line_end (drop at s) ≡ 0 + to_line_end (drop (at + 0) s)
-end_start s at = ap (λ (j : ℕ). to_line_end (drop j s)) (let q : at ≡ at + 0 = omega arith in q) ∙ (let x = to_line_end (drop (at + 0) s) in let q : x ≡ 0 + x = omega arith in q)
+pub goes_on : (n : ℕ) (s : List ℕ) → n ≤ length s → list_any (λ b. b == 10) (take n s) ≡ false → to_line_end s ≡ n + to_line_end (drop n s)
+goes_on zero s l h = omega arith
+goes_on (suc n) [] l h = absurd (omega arith)
+goes_on (suc n) (b ∷ s) l h = goes_by b n s (eqb b 10) refl h (goes_on n s (le_of_suc-le-suc l))
 
-pub end_next : (s : List ℕ) (at t : ℕ) → at + t < length s → (get_or s (at + t) 0 ≡ 10 → ⊥) → to_line_end (drop at s) ≡ t + to_line_end (drop (at + t) s) → to_line_end (drop at s) ≡ t + 1 + to_line_end (drop (at + (t + 1)) s)
-end_next s at t h e q = omega (arith, q, end_more s (at + t) h e, ap (λ (j : ℕ). to_line_end (drop j s)) (let r : at + t + 1 ≡ at + (t + 1) = omega arith in r))
+-- the first line end is the first byte that is one
+one_more : (b : ℕ) (s : List ℕ) (t : Bool) → eqb b 10 ≡ t → position_or_len (λ b. b == 10) s ≡ to_line_end s → position_or_len (λ b. b == 10) (b ∷ s) ≡ to_line_end (b ∷ s)
+one_more b s true e h = simp e
+one_more b s false e h = simp e (omega (arith, h))
 
--- what is no longer than the key is over before it, or has no `=` behind it
-short : (k l : List ℕ) → length l ≤ length k → keyed_by k l ≡ false
-short [] [] h = refl
-short [] (b ∷ l) h = absurd (omega arith)
-short (c ∷ k) [] h = refl
-short (c ∷ k) (b ∷ l) h = ap (λ (t : Bool). not (eqb b 61) && (eqb b c && t)) (short k l (le_of_suc-le-suc h)) ∙ nowhere (not (eqb b 61)) (eqb b c)
-  where
-    nowhere : (x y : Bool) → x && (y && false) ≡ false
-    nowhere x y = rw (and_false y) (and_false x)
+pub end_position : (s : List ℕ) → position_or_len (λ b. b == 10) s ≡ to_line_end s
+end_position [] = refl
+end_position (b ∷ s) = one_more b s (eqb b 10) refl (end_position s)
 
-pub key_short : (k s : List ℕ) (at : ℕ) → length s - at ≤ length k → keyed_by k (drop at s) ≡ false
-key_short k s at h = short k (drop at s) (omega (arith, length-drop at s))
+end_within : (s : List ℕ) → to_line_end s ≤ length s
+end_within [] = omega arith
+end_within (b ∷ s) = of_both (λ (n : ℕ). n ≤ suc (length s)) (eqb b 10) (omega arith) (omega (arith, end_within s))
 
-module _ (k s : List ℕ) (i at : ℕ) where
-  two_heads : i < length k → at + i < length s → keyed_by (drop i k) (drop (at + i) s) ≡ not (eqb (get_or s (at + i) 0) 61) && (eqb (get_or s (at + i) 0) (get_or k i 0) && keyed_by (drop (i + 1) k) (drop (at + (i + 1)) s))
-  two_heads h e = ap (λ (l : List ℕ). keyed_by l (drop (at + i) s)) (from_cons k i h) ∙ ap (keyed_by (get_or k i 0 ∷ drop (i + 1) k)) (left_cons s at i e)
+-- a place that is found, or the length in its stead
+or_len : (i n : ℕ) → i ≤ n → unwrap_or (cond (nat_lt i n) (Some i) None) n ≡ i
+or_len i n h = grind (arith, nat_tests)
 
-  -- its own key is over, or has another byte
-  pub key_off : i < length k → at + i < length s → (eqb (get_or s (at + i) 0) 61 || not (eqb (get_or s (at + i) 0) (get_or k i 0))) ≡ true → keyed_by (drop i k) (drop (at + i) s) ≡ false
-  key_off h e t = two_heads h e ∙ off (eqb (get_or s (at + i) 0) 61) (eqb (get_or s (at + i) 0) (get_or k i 0)) _ t
-    where
-      off : (a b c : Bool) → a || not b ≡ true → not a && (b && c) ≡ false
-      off true b c t = refl
-      off false true c t = absurd (clash t refl)
-      off false false c t = refl
+pub end_found : (s : List ℕ) → unwrap_or (position (λ b. b == 10) s) (length s) ≡ to_line_end s
+end_found s = or_len (position_or_len (λ b. b == 10) s) (length s) (rw (end_position s) (end_within s)) ∙ end_position s
 
-  pub key_more : i < length k → at + i < length s → (eqb (get_or s (at + i) 0) 61 || not (eqb (get_or s (at + i) 0) (get_or k i 0))) ≡ false → keyed_by (drop i k) (drop (at + i) s) ≡ keyed_by (drop (i + 1) k) (drop (at + (i + 1)) s)
-  key_more h e t =
-      let n = neither (eqb (get_or s (at + i) 0) 61) (not (eqb (get_or s (at + i) 0) (get_or k i 0))) t in
-      two_heads h e ∙ rw (n.0, not-false (eqb (get_or s (at + i) 0) (get_or k i 0)) n.1)
+-- a line has the key where it begins with it and an `=`, and the key holds none
+abbrev pub begins : List ℕ → List ℕ → Bool
+begins k s = pointwise eqb (take (length k) s) k
 
-  -- behind the key the line has an `=`, or not
-  pub key_last : length k ≤ i → at + i < length s → keyed_by (drop i k) (drop (at + i) s) ≡ eqb (get_or s (at + i) 0) 61
-  key_last h e = rw (drop_of_length-le k h, left_cons s at i e)
+abbrev pub equals_behind : List ℕ → List ℕ → Bool
+equals_behind k s = pointwise eqb (61 ∷ []) (take 1 (drop (length k) s))
 
-pub key_start : (k s : List ℕ) (at : ℕ) → keyed_by k (drop at s) ≡ keyed_by (drop 0 k) (drop (at + 0) s)
-key_start k s at = ap (λ (j : ℕ). keyed_by k (drop j s)) (let q : at ≡ at + 0 = omega arith in q)
+abbrev pub holds : List ℕ → Bool
+holds k = list_any (λ (y : ℕ). eqb y 61) k
+
+other : (x u w t : Bool) → u && w ≡ false → (w ≡ false → false ≡ t) → false ≡ x && (u && t)
+other x true w t e h = sym (and_false x) ∙ ap (λ (t : Bool). x && t) (h e)
+other x false w t e h = sym (and_false x)
+
+pub key_other : (k s : List ℕ) → begins k s ≡ false → false ≡ keyed_by k s
+key_other [] s e = absurd cc
+key_other (c ∷ k) [] e = refl
+key_other (c ∷ k) (b ∷ s) e = other (not (eqb b 61)) (eqb b c) (begins k s) (keyed_by k s) e (key_other k s)
+
+alone : (b : ℕ) (t : Bool) → eqb b 61 ≡ t → t ≡ (eqb 61 b && true) && true
+alone b true e = rw (eq-eqb 61 b (sym (eqb-true b 61 e)))
+alone b false e = rw (ne_eqb 61 b (λ q. eqb-false b 61 e (sym q)))
+
+past_first : (x p a : Bool) → not x && (true && (p && not a)) ≡ p && not (x || a)
+past_first true p a = sym (and_false p)
+past_first false p a = refl
+
+key_begun : (k s : List ℕ) → begins k s ≡ true → keyed_by k s ≡ equals_behind k s && not (holds k)
+key_begun [] [] e = refl
+key_begun [] (b ∷ s) e = alone b (eqb b 61) refl
+key_begun (c ∷ k) [] e = absurd cc
+key_begun (c ∷ k) (b ∷ s) e =
+    let w = both_pass (eqb b c) (begins k s) e in
+    ap (λ (t : Bool). not (eqb b 61) && (eqb b c && t)) (key_begun k s w.1)
+    ∙ ap (λ (t : Bool). not (eqb b 61) && (t && (equals_behind k s && not (holds k)))) w.0
+    ∙ ap (λ (n : ℕ). not (eqb n 61) && (true && (equals_behind k s && not (holds k)))) (eqb-true b c w.0)
+    ∙ past_first (eqb c 61) (equals_behind k s) (holds k)
+
+pub key_equals : (k s : List ℕ) (t : Bool) → begins k s ≡ true → t ≡ equals_behind k s → t && not (holds k) ≡ keyed_by k s
+key_equals k s t e f = ap (λ (t : Bool). t && not (holds k)) f ∙ sym (key_begun k s e)

@@ -2,7 +2,7 @@
 #![tactic(auto)]
 
 // A rectangle of the frame, where its top left corner goes on the canvas (right and down count up), and the counts that its entry receives.
-#[derive(Clone, Copy)]
+#[derive(Clone, Copy, PartialEq)]
 pub struct Placement {
     pub left: usize,
     pub top: usize,

@@ -7,3 +7,4 @@ pub mod Firsts
 pub mod Counts
 pub mod Later
 pub mod Parts
+pub mod Copied

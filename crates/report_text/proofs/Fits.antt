@@ -21,7 +21,7 @@ use Rattle.report_text.proofs.Values.{deed_small}
 use Rattle.report_text.proofs.Longs.{decimal_small, annotated_long}
 use Rattle.report_text.proofs.Cases.{report_done, report_refused}
 
-settings_long : (s : Settings) → length (setting_lines s) ≤ 60
+pub settings_long : (s : Settings) → length (setting_lines s) ≤ 60
 settings_long s = simp length-append (omega (arith, name_small s.look))
 
 module _ (t : Told) (s : List ℕ) where

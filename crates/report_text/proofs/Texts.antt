@@ -1,13 +1,15 @@
 -- Laws of a text in its array: what it holds, and how it grows.
 use Prim.Native.Nat.{ℕ, zero, suc, ◌+◌, ◌-◌, ◌≤◌}
-use mathlib.Core.Path.{◌≡◌, sym, ap, ap₂, ◌∙◌}
-use mathlib.Core.List.{List, ◌++◌}
+use borrow.Rule.Slice.PartMut.{put_mid}
+use Rattle.std.proofs.lemmas.Slice.{put_mid-paste}
+use mathlib.Core.Path.{◌≡◌, refl, sym, ap, ap₂, ◌∙◌}
+use mathlib.Core.List.{List, [], ◌++◌, append_assoc}
 use native.Mathlib.Omega.{arith}
 use lib.ListN.{length, drop, replicate, length-append, length-replicate}
 use lib.Seq.{paste, take-length, take-append_seam, drop-append-add}
 use Rattle.grammar.specs.Sheet.{nl}
 use Rattle.report_text.specs.declared.Text.{Text}
-use Rattle.report_text.specs.Words.{room, text_of, held, Holds}
+use Rattle.report_text.specs.Words.{room, text_of, held, Holds, HasRoom}
 
 abbrev text : List ℕ → ℕ → Text
 text l n = record { bytes = l; len = n }
@@ -28,9 +30,31 @@ text_long l e = ap (λ (t : Text). t.len) e
 pub grows : {t r : Text} (l p : List ℕ) → t ≡ text_of l → r ≡ text_of (held t ++ p) → r ≡ text_of (l ++ p)
 grows {t} {r} l p e q = q ∙ ap (λ (h : List ℕ). text_of (h ++ p)) (ap held e ∙ held_text l)
 
--- the same of a line, whose value may be written as any bytes that are equal to it
-pub then_line : {t r : Text} (l w : List ℕ) {v : List ℕ} (v' : List ℕ) → t ≡ text_of l → r ≡ text_of (held t ++ (w ++ (v ++ nl))) → v ≡ v' → r ≡ text_of (l ++ (w ++ (v' ++ nl)))
-then_line {t} {r} l w {v} v' e q n = grows l (w ++ (v ++ nl)) e q ∙ ap (λ (x : List ℕ). text_of (l ++ (w ++ (x ++ nl)))) n
+-- a text that grew twice
+pub grows_on : (t u r : Text) (a b : List ℕ) → u ≡ text_of (held t ++ a) → r ≡ text_of (held u ++ b) → r ≡ text_of (held t ++ (a ++ b))
+grows_on t u r a b e q = grows (held t ++ a) b e q ∙ ap text_of (append_assoc (held t) a b)
+
+-- and the room that is left in one that grew
+pub room_left : (t u : Text) {n : ℕ} (m : ℕ) (a : List ℕ) → HasRoom t n → u ≡ text_of (held t ++ a) → length a + m ≤ n → HasRoom u m
+room_left t u m a h e l =
+    record {
+      holds = holds_text (held t ++ a) e;
+      roomy = omega (arith, text_long (held t ++ a) e, length-append (held t) a, text_long (held t) h.holds, h.roomy);
+    }
+
+-- the same after a line, whose value may be written as any bytes that are equal to it
+pub lined : (t u : Text) (w : List ℕ) {v : List ℕ} (v' : List ℕ) → u ≡ text_of (held t ++ (w ++ (v ++ nl))) → v ≡ v' → u ≡ text_of (held t ++ (w ++ (v' ++ nl)))
+lined t u w v' e q = e ∙ ap (λ (x : List ℕ). text_of (held t ++ (w ++ (x ++ nl)))) q
+
+pub line_left : (t u : Text) {n : ℕ} (m : ℕ) (w v : List ℕ) → HasRoom t n → u ≡ text_of (held t ++ (w ++ (v ++ nl))) → length w + (length v + 1) + m ≤ n → HasRoom u m
+line_left t u m w v h e l = room_left t u m (w ++ (v ++ nl)) h e (omega (arith, length-append w (v ++ nl), length-append v nl))
+
+-- where no more is asked for, and after a short line of at most 13 bytes
+pub room_less : {t : Text} {n : ℕ} (m : ℕ) → HasRoom t n → m ≤ n → HasRoom t m
+room_less m h l = record { holds = h.holds; roomy = omega (arith, h.roomy) }
+
+pub short_left : (t u : Text) (m : ℕ) (w v : List ℕ) → HasRoom t (13 + m) → u ≡ text_of (held t ++ (w ++ (v ++ nl))) → length w + (length v + 1) ≤ 13 → HasRoom u m
+short_left t u m w v h e l = line_left t u m w v h e (omega arith)
 
 zeros : ℕ → List ℕ
 zeros n = replicate n 0
@@ -62,11 +86,16 @@ place_long t h fits =
     ∙ ap (λ (n : ℕ). length (held t) + n) (length-replicate (room - length (held t)) 0)
     ∙ omega (arith, text_long (held t) h)
 
--- a part stored after what a text holds
-pub pasted : (t : Text) (p : List ℕ) {n : ℕ} {b : List ℕ} → Holds t → t.len + length p ≤ room → n ≡ length p → b ≡ paste t.bytes t.len p n → text b (t.len + length p) ≡ text_of (held t ++ p)
+-- a text that holds nothing has all the room
+pub empty_room : {t : Text} → t ≡ text_of [] → HasRoom t room
+empty_room e = record { holds = holds_text [] e; roomy = omega (arith, text_long [] e) }
+
+-- a part stored after what a text holds, as it is left by a copy to a part of the array
+pub pasted : (t : Text) (p : List ℕ) {b : List ℕ} → HasRoom t (length p) → b ≡ p → text (put_mid t.len (t.len + length p - t.len) t.bytes b) (t.len + length p) ≡ text_of (held t ++ p)
 unfolding text_of zeros
-pasted t p {n} {b} h fits e q =
-    let k : t.len ≡ length (held t) = text_long (held t) h in
-    let d : t.bytes ≡ held t ++ zeros (room - length (held t)) = ap (λ (u : Text). u.bytes) h in
-    let r : b ≡ paste (held t ++ zeros (room - length (held t))) (length (held t)) p (length p) = q ∙ ap₂ (λ (x : List ℕ) (m : ℕ). paste x m p n) d k ∙ ap (paste (held t ++ zeros (room - length (held t))) (length (held t)) p) e in
-    ap₂ text r (ap (λ (m : ℕ). m + length p) k) ∙ pasted_by (held t) p (rw (← k) fits)
+pasted t p {b} h e =
+    let k : t.len ≡ length (held t) = text_long (held t) h.holds in
+    let d : t.bytes ≡ held t ++ zeros (room - length (held t)) = ap (λ (u : Text). u.bytes) h.holds in
+    let r : put_mid t.len (t.len + length p - t.len) t.bytes b ≡ paste (held t ++ zeros (room - length (held t))) (length (held t)) p (length p) =
+    put_mid-paste t.len (t.len + length p - t.len) t.bytes b p (length p) e (omega arith) refl ∙ ap₂ (λ (x : List ℕ) (m : ℕ). paste x m p (length p)) d k in
+    ap₂ text r (ap (λ (m : ℕ). m + length p) k) ∙ pasted_by (held t) p (rw (← k) h.roomy)

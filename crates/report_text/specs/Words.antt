@@ -1,5 +1,5 @@
 -- The report's words and numbers, and a text in its array of 32,768 bytes.
-use Rattle.std.specs.Prelude.{ℕ, zero, suc, ◌+◌, ◌-◌, ◌/◌, ◌%◌, ◌≡◌, List, [], ◌∷◌, ◌++◌, ltb, length, take, replicate}
+use Rattle.std.specs.Prelude.{ℕ, zero, suc, ◌+◌, ◌-◌, ◌/◌, ◌%◌, ◌≡◌, ◌≤◌, List, [], ◌∷◌, ◌++◌, ltb, length, take, replicate}
 use Rattle.promises.specs.Choose.{choose}
 use Rattle.grammar.specs.Sheet.{eq, nl}
 use Rattle.report_text.specs.declared.Text.{Text}
@@ -50,3 +50,8 @@ held t = take t.len t.bytes
 
 abbrev pub Holds : Text → Type 0
 Holds t = t ≡ text_of (held t)
+
+-- a text has room for n bytes more
+pub record HasRoom (t : Text) (n : ℕ) : Type 0 where
+  pub holds : Holds t
+  pub roomy : t.len + n ≤ room

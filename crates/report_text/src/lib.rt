@@ -7,10 +7,11 @@ ghost use Rattle.text.specs.Hex.{hex_digit, hex};
 ghost use Rattle.grammar.specs.Sheet.{rule_digit, nl};
 ghost use Rattle.grammar.specs.Given.{fields_in};
 ghost use Rattle.intake.specs.Intake.{settings_in};
-ghost use Rattle.report_text.specs.Words.{decimal, room, text_of, held, Holds};
-ghost use Rattle.report_text.specs.Report.{given_lines, rule_printed, view_lines, setting_lines, annotated, text_for, report_of, report_after};
+ghost use Rattle.report_text.specs.Words.{decimal, text_of, held, HasRoom};
+ghost use Rattle.report_text.specs.Report.{setting_lines, annotated, text_for, report_of, report_after};
 
 use answer::Answer;
+use intake::Intake;
 use settings::{Rule, Settings};
 
 // The report's own keys; `deed=`, `pins=` and `rule=` are the sheet's.
@@ -34,6 +35,7 @@ pub struct Text {
 }
 
 // The digits of a number: those from `from` on.
+// Kept as an array with a place: because the library takes no allocator, and a number of 64 bits may have one digit or twenty.
 #[derive(Clone, Copy)]
 struct Digits {
     bytes: [u8; 20],
@@ -49,11 +51,11 @@ fn decimal(n: usize) -> Digits
     let mut rest = n;
     while 10 <= rest {
         from -= 1;
-        bytes[from] = 48 + (rest % 10) as u8;
-        rest = rest / 10;
+        bytes[from] = b'0' + (rest % 10) as u8;
+        rest /= 10;
     }
     from -= 1;
-    bytes[from] = 48 + rest as u8;
+    bytes[from] = b'0' + rest as u8;
     Digits { bytes, from }
 }
 
@@ -62,7 +64,11 @@ fn hex_digit(d: u16) -> u8
     requires { d < 16 }
     ensures { result ≡ hex_digit d }
 {
-    if d < 10 { 48 + d as u8 } else { 55 + d as u8 }
+    if d < 10 {
+        b'0' + d as u8
+    } else {
+        b'A' + (d as u8 - 10)
+    }
 }
 
 // A number in four hex digits.
@@ -77,69 +83,6 @@ fn hex(n: u16) -> [u8; 4]
     ]
 }
 
-// A text that holds nothing yet.
-fn blank() -> Text
-    ensures { result ≡ text_of [] }
-{
-    Text {
-        bytes: [0u8; 32768],
-        len: 0,
-    }
-}
-
-// The text with a part appended.
-fn append(text: Text, part: &[u8]) -> Text
-    requires { Holds text × (text.len + length part.now ≤ room) }
-    ensures value { result ≡ text_of (held text ++ part.now) }
-    ensures holds { Holds result × (result.len ≡ text.len + length part.now) }
-{
-    let at = text.len;
-    let mut bytes = text.bytes;
-    let mut i: usize = 0;
-    while i < part.len() {
-        bytes[at + i] = part[i];
-        i += 1;
-    }
-    Text {
-        bytes,
-        len: at + part.len(),
-    }
-}
-
-// The text with a line appended: a word with its `=`, a value, and the line end.
-fn line(text: Text, word: &[u8], value: &[u8]) -> Text
-    requires { Holds text × (text.len + (length word.now + (length value.now + 1)) ≤ room) }
-    ensures value { result ≡ text_of (held text ++ (word.now ++ (value.now ++ nl))) }
-    ensures holds { Holds result × (result.len ≡ text.len + (length word.now + (length value.now + 1))) }
-{
-    append(append(append(text, word), value), b"\n")
-}
-
-// The same with a number in decimal for the value.
-fn number_line(text: Text, word: &[u8], n: usize) -> Text
-    requires { Holds text × (text.len + (length word.now + 21) ≤ room) }
-    ensures value { result ≡ text_of (held text ++ (word.now ++ (decimal n ++ nl))) }
-    ensures holds { Holds result × (result.len ≤ text.len + (length word.now + 21)) }
-{
-    let digits = decimal(n);
-    let bytes = digits.bytes;
-    let from = digits.from;
-    line(text, word, &bytes[from..])
-}
-
-// The lines of what the chips were given: pins and control.
-fn given_lines(text: Text, settings: Settings) -> Text
-    requires { Holds text × (text.len ≤ 1000) }
-    ensures value { result ≡ text_of (held text ++ given_lines settings) }
-    ensures holds { Holds result × (result.len ≤ text.len + 25) }
-{
-    let look = settings.look;
-    let pins = hex(look.pins as u16);
-    let one = line(text, &scan::PINS_KEY, &pins[2..]);
-    let control = hex(settings.word);
-    line(one, &CONTROL_KEY, &control)
-}
-
 // The digit of a rule.
 fn rule_digit(rule: Rule) -> u8
     ensures { result ≡ rule_digit rule }
@@ -150,67 +93,99 @@ fn rule_digit(rule: Rule) -> u8
     }
 }
 
-// The line of the rule.
-fn rule_line(text: Text, settings: Settings) -> Text
-    requires { Holds text × (text.len ≤ 1500) }
-    ensures value { result ≡ text_of (held text ++ rule_printed settings) }
-    ensures holds { Holds result × (result.len ≤ text.len + 7) }
-{
-    let rule = settings.rule;
-    line(text, &scan::RULE_KEY, &[rule_digit(rule)])
+// Each method below appends to the text.
+// Kept as clauses and no ghost field: because `text_of`, in the promise of `report`, makes a `Text` of any list, also one with no room in the array.
+impl Text {
+    // A text that holds nothing yet.
+    fn new() -> Text
+        ensures { result ≡ text_of [] }
+    {
+        Text {
+            bytes: [0; 32768],
+            len: 0,
+        }
+    }
+
+    // Appends a part.
+    fn append(&mut self, part: &[u8])
+        requires { HasRoom self.old (length part.now) }
+        ensures { self.new ≡ text_of (held self.old ++ part.now) }
+    {
+        let end = self.len + part.len();
+        self.bytes[self.len..end].copy_from_slice(part);
+        self.len = end;
+    }
+
+    // Appends a line: a word with its `=`, a value, and the line end.
+    fn line(&mut self, word: &[u8], value: &[u8])
+        requires { HasRoom self.old (length word.now + (length value.now + 1)) }
+        ensures { self.new ≡ text_of (held self.old ++ (word.now ++ (value.now ++ nl))) }
+    {
+        self.append(word);
+        self.append(value);
+        self.append(b"\n");
+    }
+
+    // Appends a line with a number in decimal for its value.
+    fn number_line(&mut self, word: &[u8], n: usize)
+        requires { HasRoom self.old (length word.now + 21) }
+        ensures { self.new ≡ text_of (held self.old ++ (word.now ++ (decimal n ++ nl))) }
+    {
+        let digits = decimal(n);
+        self.line(word, &digits.bytes[digits.from..]);
+    }
+
+    // Appends the lines of the settings: pins, control and rule, and the mode and the start that follow from them.
+    fn setting_lines(&mut self, settings: Settings)
+        requires { HasRoom self.old 65 }
+        ensures { self.new ≡ text_of (held self.old ++ setting_lines settings) }
+    {
+        let pins = hex(u16::from(settings.look.pins));
+        self.line(&scan::PINS_KEY, &pins[2..]);
+        let control = hex(settings.word);
+        self.line(&CONTROL_KEY, &control);
+        self.line(&scan::RULE_KEY, &[rule_digit(settings.rule)]);
+        let name = settings::mode_name(settings.look);
+        let letters = &name.bytes[..name.len];
+        self.line(&MODE_KEY, letters);
+        let first = counter::start(settings);
+        let start = hex(first.address);
+        self.line(&START_KEY, &start);
+    }
+
+    // Appends the number of annotations, and the annotation lines as they stand in the sheet.
+    fn annotations(&mut self, sheet: &[u8], count: usize)
+        requires room { HasRoom self.old 28200 }
+        requires count_value { count ≡ length (fields_in sheet.now).annotations }
+        ensures { self.new ≡ text_of (held self.old ++ annotated sheet.now) }
+    {
+        self.number_line(&ANNOTATIONS_KEY, count);
+        self.append(sheet::tail(sheet));
+    }
 }
 
-// The lines of what the chips then show: mode and start.
-fn view_lines(text: Text, settings: Settings) -> Text
-    requires { Holds text × (text.len ≤ 2000) }
-    ensures value { result ≡ text_of (held text ++ view_lines settings) }
-    ensures holds { Holds result × (result.len ≤ text.len + 25) }
-{
-    let name = settings::mode_name(settings.look);
-    let letters = name.bytes;
-    let len = name.len;
-    let one = line(text, &MODE_KEY, &letters[..len]);
-    let first = counter::start(settings);
-    let start = hex(first.address);
-    line(one, &START_KEY, &start)
-}
-
-// The lines of the settings.
-fn setting_lines(text: Text, settings: Settings) -> Text
-    requires { Holds text × (text.len ≤ 1000) }
-    ensures value { result ≡ text_of (held text ++ setting_lines settings) }
-    ensures holds { Holds result × (result.len ≤ text.len + 57) }
-{
-    view_lines(rule_line(given_lines(text, settings), settings), settings)
-}
-
-// The number of annotations, and the annotation lines as they stand in the sheet.
-fn annotated(text: Text, lent: &[u8], count: usize) -> Text
-    requires { Holds text × (text.len ≤ 2000) × (count ≡ length (fields_in lent.now).annotations) }
-    ensures { result ≡ text_of (held text ++ annotated lent.now) }
-{
-    let counted = number_line(text, &ANNOTATIONS_KEY, count);
-    append(counted, sheet::tail(lent))
-}
-
-// The text where an answer is told of a sheet, by the settings and the number of annotations that were taken in of it.
-fn text_for(sheet: &[u8], settings: Settings, count: usize, answer: Answer) -> Text
-    requires count_value { count ≡ length (fields_in sheet.now).annotations }
-    requires settings_value { (told_of answer).number ≡ 0 → settings ≡ settings_in sheet.now }
+// The text where an answer is told of a sheet, by what was taken in of it.
+fn text_for(sheet: &[u8], taken: Intake, answer: Answer) -> Text
+    requires count_value { taken.annotations ≡ length (fields_in sheet.now).annotations }
+    requires settings_value { (told_of answer).number ≡ 0 → taken.settings ≡ settings_in sheet.now }
     ensures { result ≡ text_of (text_for (told_of answer) sheet.now) }
 {
     let number = answer::number(answer);
-    let status = number_line(blank(), &STATUS_KEY, number as usize);
+    let mut text = Text::new();
+    text.number_line(&STATUS_KEY, usize::from(number));
     if number == 0 {
-        let named = line(status, &scan::DEED_KEY, sheet::deed(sheet));
-        return annotated(setting_lines(named, settings), sheet, count);
+        text.line(&scan::DEED_KEY, sheet::deed(sheet));
+        text.setting_lines(taken.settings);
+        text.annotations(sheet, taken.annotations);
+        return text;
     }
-    let placed = number_line(status, &PLACE_KEY, answer::place(answer));
+    text.number_line(&PLACE_KEY, answer::place(answer));
     if number == 11 {
-        return placed;
+        return text;
     }
-    let named = line(placed, &scan::DEED_KEY, sheet::deed(sheet));
-    annotated(named, sheet, count)
+    text.line(&scan::DEED_KEY, sheet::deed(sheet));
+    text.annotations(sheet, taken.annotations);
+    text
 }
 
 // The report of a sheet.
@@ -219,7 +194,7 @@ pub fn report(sheet: &[u8]) -> Text
 {
     let taken = intake::settings_of(sheet);
     let answer = taken.answer;
-    text_for(sheet, taken.settings, taken.annotations, answer)
+    text_for(sheet, taken, answer)
 }
 
 // The report of a sheet after an operation on its record gave this answer; the sheet's own refusal stands first.
@@ -229,5 +204,5 @@ pub fn report_after(sheet: &[u8], answer: Answer) -> Text
     let taken = intake::settings_of(sheet);
     let own = taken.answer;
     let told = answer::check(own, true, answer);
-    text_for(sheet, taken.settings, taken.annotations, told)
+    text_for(sheet, taken, told)
 }

@@ -1,136 +1,128 @@
 // The strip out of a picture: from the picture file of a graphics screen to the strip that it shows, by the pins.
 #![tactic(auto)]
 
-mod files;
-mod reading;
+ghost use Rattle.std.specs.Prelude.{◌<◌, IfSome};
 
-ghost use Rattle.std.specs.Prelude.{◌≤◌};
-
-use answer::Answer;
+use answer::{Answer, Refusal};
+use files::{Failure, LONGEST_PATH};
 use picture::FILE_LENGTH;
-use reading::{STDERR_FILENO, argument, is_given, read_arg};
 use settings::{FRAME_LENGTH, Look};
+use std::alloc::AllocError;
 use std::fs::File;
+use std::io;
 use std::rt::{Env, Files};
 
-const STDOUT_FILENO: i32 = 1;
-
 // How each sentence on standard error begins.
-const WHO: [u8; 9] = *b"restore: ";
+const WHO: &str = "restore";
 
-// A pin byte, and whether the argument is one.
-#[derive(Clone, Copy)]
-struct Pins {
-    given: bool,
-    pins: u8,
-}
-
-// The value of a hex digit in capitals, and 16 of any other byte.
-fn digit(b: u8) -> u8
-    ensures { result ≤ 16 }
+// The value of a hex digit in capitals.
+fn digit(b: u8) -> Option<u8>
+    ensures { IfSome result (λ value. value < 16) }
 {
     match b {
-        b'0'..=b'9' => b - b'0',
-        b'A'..=b'F' => b - b'A' + 10,
-        _ => 16,
-    }
-}
-
-// No pin byte.
-fn no_pins() -> Pins {
-    Pins {
-        given: false,
-        pins: 0,
+        b'0'..=b'9' => Some(b - b'0'),
+        b'A'..=b'F' => Some(b - b'A' + 10),
+        _ => None,
     }
 }
 
 // The pins of two hex digits, as they stand on a sheet.
-fn pins_in(word: &[u8]) -> Pins {
-    if word.len() != 2 {
-        return no_pins();
-    }
-    let high = digit(word[0]);
-    let low = digit(word[1]);
-    if 15 < high {
-        return no_pins();
-    }
-    if 15 < low {
-        return no_pins();
-    }
-    Pins {
-        given: true,
-        pins: high * 16 + low,
+fn pins_in(word: &[u8]) -> Option<u8> {
+    let [high, low] = word else {
+        return None;
+    };
+    let high = digit(*high)?;
+    let low = digit(*low)?;
+    Some(high * 16 + low)
+}
+
+// Prints what was answered, in the report's manner.
+fn print(rt: &impl Print, answer: Answer) -> io::Result<()> {
+    match answer {
+        Ok(_) => println!(rt; "status=0"),
+        Err(refusal) => println!(rt; "{refusal}"),
     }
 }
 
-// Says what was answered, in the report's manner.
-fn tell(answer: Answer) {
-    let number = answer::number(answer);
-    io::write_all(STDOUT_FILENO, b"status=");
-    io::print_decimal(STDOUT_FILENO, number as u64);
-    if number != 0 {
-        io::write_all(STDOUT_FILENO, b"\nplace=");
-        io::print_decimal(STDOUT_FILENO, answer::place(answer) as u64);
+// Says what was answered.
+fn tell(rt: &(impl Print + Eprint), answer: Answer) {
+    if print(rt, answer).is_err() {
+        let _ = eprintln!(rt; "restore: the output is not whole");
     }
-    if !io::write_all(STDOUT_FILENO, b"\n") {
-        io::write_all(STDERR_FILENO, b"restore: the output is not whole\n");
-    }
+}
+
+// Takes the strip out of a picture file, and lends it.
+fn strip_of<'a>(pins: u8, png: &[u8], strip: &'a mut [u8]) -> Result<&'a [u8], Refusal> {
+    let mut frame = [0u8; FRAME_LENGTH];
+    picture_back::decode(png, &mut frame)?;
+    let len = back::read_back(Look { pins }, &frame, strip)?;
+    Ok(&strip[..len.min(strip.len())])
 }
 
 // Keeps a strip under a name that is free, and says so once it is on the disk.
-fn keep(rt: &impl Files<File = File>, path: &[u8], strip: &[u8], answer: Answer) {
-    if files::is_free(rt, &WHO, path) {
-        if files::write_new(rt, &WHO, path, strip) {
-            tell(answer);
+fn keep(
+    rt: &(impl Files<File = File> + Print + Eprint + AllocGlobal),
+    path: &[u8],
+    strip: &[u8],
+) -> Result<(), Failure> {
+    files::check_free(rt, WHO, path)?;
+    files::write_new(rt, WHO, path, strip)?;
+    tell(rt, Ok(strip.len()));
+    Ok(())
+}
+
+// Restores the strip of a picture file.
+fn restore(
+    rt: &(impl Files<File = File> + Print + Eprint + AllocGlobal),
+    pins: u8,
+    png: &[u8],
+    path: &[u8],
+) -> Result<(), Failure> {
+    let mut strip = [0u8; 6144];
+    match strip_of(pins, png, &mut strip) {
+        Ok(strip) => keep(rt, path, strip),
+        Err(refusal) => {
+            tell(rt, Err(refusal));
+            Ok(())
         }
     }
 }
 
-// Restores the strip of a picture file.
-fn restore(rt: &impl Files<File = File>, pins: u8, png: &[u8], path: &[u8]) {
-    let mut frame = [0u8; FRAME_LENGTH];
-    let mut strip = [0u8; 6144];
-    let decoded = picture_back::decode(png, &mut frame);
-    if answer::number(decoded) != 0 {
-        tell(decoded);
-        return;
-    }
-    let answer = back::read_back(Look { pins }, &frame, &mut strip);
-    if answer::number(answer) != 0 {
-        tell(answer);
-        return;
-    }
-    let len = files::within(answer::value(answer), &strip);
-    keep(rt, path, &strip[..len], answer);
-}
-
 // Reads the picture, with a byte more than every picture has, and restores its strip.
-fn by_names(rt: &(impl Env + Files<File = File>), pins: u8, strip_path: &[u8]) {
+fn by_names(
+    rt: &(impl Files<File = File> + Print + Eprint + AllocGlobal),
+    pins: u8,
+    picture: &[u8],
+    strip: &[u8],
+) -> Result<(), Failure> {
     let mut png = [0u8; FILE_LENGTH + 1];
-    let found = read_arg(rt, &WHO, 2, &mut png);
-    if found.whole {
-        let len = found.len;
-        restore(rt, pins, &png[..len], strip_path);
-    }
+    let png = files::read(rt, WHO, picture, &mut png)?;
+    restore(rt, pins, png, strip)
 }
 
 // Says what the arguments are.
-fn explain() {
-    io::write_all(
-        STDERR_FILENO,
-        b"restore: give PINS PICTURE STRIP; PINS are two hex digits as on a sheet\n",
+fn explain(rt: &impl Eprint) {
+    let _ = eprintln!(rt;
+        "restore: give PINS PICTURE STRIP; PINS are two hex digits as on a sheet"
     );
 }
 
-fn main(rt: HostRuntime) {
-    let mut word = io::buffer();
-    let mut strip_path = io::buffer();
-    let n = argument(&rt, 1, &mut word);
-    let s = argument(&rt, 3, &mut strip_path);
-    let pins = pins_in(&word[..n]);
-    if pins.given & is_given(&rt, 3) & !is_given(&rt, 4) {
-        by_names(&rt, pins.pins, &strip_path[..s]);
-        return;
+// Restores by three arguments; a fourth is enough to see that there are too many.
+fn run(rt: &(impl Env + Files<File = File> + Print + Eprint + AllocGlobal)) -> Result<(), Failure> {
+    let given = files::arguments(rt, 4, LONGEST_PATH)?;
+    if let [word, picture, strip] = given.as_slice()
+        && let Some(pins) = pins_in(word)
+    {
+        return by_names(rt, pins, picture, strip);
     }
-    explain();
+    explain(rt);
+    Ok(())
+}
+
+// What failed of a file has been told; only a lack of memory is left to say.
+fn main(rt: HostRuntime) -> Result<(), AllocError> {
+    match run(&rt) {
+        Ok(()) | Err(Failure::Told) => Ok(()),
+        Err(Failure::OutOfMemory(error)) => Err(error),
+    }
 }

@@ -1,9 +1,8 @@
 -- The laws of one pass over a sheet.
-pub mod Stepped
-pub mod Counting
-pub mod Written
+pub mod Runs
+pub mod Readings
 pub mod Fields
-pub mod Ruling
+pub mod Written
 pub mod Annotated
 pub mod Surveyed
 pub mod Outlined

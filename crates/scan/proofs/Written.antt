@@ -1,62 +1,87 @@
 -- Write addresses in an array that is filled from its start.
-use Prim.Native.Nat.{ℕ, suc, ◌+◌, ◌-◌, ◌<◌}
+use Prim.Native.Nat.{ℕ, zero, suc, ◌+◌, ◌-◌, ◌≤◌, ◌<◌}
 use native.Mathlib.Omega.{arith}
 use mathlib.Core.Path.{◌≡◌, refl, sym, ◌∙◌, ap}
 use mathlib.Core.List.{List, [], ◌∷◌, ◌++◌, append_assoc, append-nil}
-use mathlib.Core.Bool.{Bool, true, false}
-use lib.ListN.{length, set, replicate, length-append}
+use lib.ListN.{length, set, take, drop, replicate, length-append}
 use lib.Seq.{set_at}
-use Rattle.text.specs.Code.{Reading, got, stuck}
-use Rattle.text.proofs.Passed.{Passed, ahead, passed_none, passed_more}
-use Rattle.text.proofs.Tests.{clash}
+use Rattle.std.proofs.Common.{Ok, Err}
+use Rattle.text.specs.Code.{Reading, got}
+use Rattle.text.specs.Combine.{read_times}
+use Rattle.text.proofs.Passed.{Passed, ahead, passed_none, passed_more, times_end, times_more, times_stuck}
 use Rattle.grammar.specs.Given.{padded}
-use Rattle.scan.specs.Steps.{writes_of}
-use Rattle.scan.specs.declared.Writes.{Writes}
+use Rattle.scan.specs.Steps.{read_as, itself}
+use Rattle.scan.specs.declared.Found.{Found}
+use Rattle.scan.proofs.Readings.{Passes, Sticks}
 
-abbrev written : Bool → ℕ → List ℕ → Writes
-written t n l = record { whole = t; size = n; writes = l }
-
--- i addresses and p bytes of what is read as o are passed, the rest is read as r, and out holds the addresses
-pub record Filled (out : List ℕ) (i p : ℕ) (o r : Reading (List ℕ)) : Type 0 where
+-- i addresses and p bytes of what is read as o are passed, the rest is read as r, and of n places out holds the addresses
+pub record Filled (n : ℕ) (out : List ℕ) (i p : ℕ) (o r : Reading (List ℕ)) : Type 0 where
   pub passed : Passed o i p r
-  pub holds : out ≡ padded 64 passed.values
+  pub holds : out ≡ padded n passed.values
 
-pub filled_none : (o r : Reading (List ℕ)) (p : ℕ) → o ≡ r → p ≡ 0 → Filled (replicate 64 0) 0 p o r
-filled_none o r p w e = record { passed = passed_none o r p w e; holds = refl }
+take-replicate : (n m : ℕ) → n ≤ m → take {A = ℕ} n (replicate m 0) ≡ replicate n 0
+take-replicate zero m h = refl
+take-replicate (suc n) zero h = absurd (omega arith)
+take-replicate (suc n) (suc m) h = ap (λ (l : List ℕ). 0 ∷ l) (take-replicate n m (omega arith))
 
-padded_more : (l : List ℕ) (v : ℕ) → length l < 64 → set (padded 64 l) (length l) v ≡ padded 64 (l ++ (v ∷ []))
-padded_more l v h =
-    ap (λ (j : ℕ). set (l ++ replicate j 0) (length l) v) (let q : 64 - length l ≡ suc (64 - (length l + 1)) = omega arith in q)
-    ∙ set_at l 0 (replicate (64 - (length l + 1)) 0) v (length l) refl
-    ∙ sym (append_assoc l (v ∷ []) (replicate (64 - (length l + 1)) 0))
-    ∙ ap (λ (j : ℕ). (l ++ (v ∷ [])) ++ replicate (64 - j) 0) (sym (length-append l (v ∷ [])))
+drop-replicate : (n m : ℕ) → n ≤ m → drop {A = ℕ} n (replicate m 0) ≡ replicate (m - n) 0
+drop-replicate zero m h = ap (λ (j : ℕ). replicate j 0) (let q : m ≡ m - 0 = omega arith in q)
+drop-replicate (suc n) zero h = absurd (omega arith)
+drop-replicate (suc n) (suc m) h = drop-replicate n m (omega arith) ∙ ap (λ (j : ℕ). replicate j 0) (let q : m - n ≡ suc m - suc n = omega arith in q)
 
-pub filled_more : (out : List ℕ) (i p : ℕ) (o r : Reading (List ℕ)) (f : Filled out i p o r) → i < 64 → (v n : ℕ) (r' : Reading (List ℕ)) (q : ℕ) → q ≡ p + n → r ≡ ahead (v ∷ []) n r' → Filled (set out i v) (i + 1) q o r'
-filled_more out i p o r f h v n r' q w e =
-    record {
-      passed = passed_more o i p r f.passed v n r' q w e;
-      holds =
-          ap (λ (x : List ℕ). set x i v) f.holds
-          ∙ ap (λ (j : ℕ). set (padded 64 f.passed.values) j v) (sym f.passed.many)
-          ∙ padded_more f.passed.values v (omega (arith, f.passed.many));
-    }
+replicate-append : (n m : ℕ) → ◌++◌ {A = ℕ} (replicate n 0) (replicate m 0) ≡ replicate (n + m) 0
+replicate-append zero m = ap (λ (j : ℕ). replicate j 0) (let q : m ≡ 0 + m = omega arith in q)
+replicate-append (suc n) m = ap (λ (l : List ℕ). 0 ∷ l) (replicate-append n m) ∙ ap (λ (j : ℕ). replicate j 0) (let q : suc (n + m) ≡ suc n + m = omega arith in q)
 
--- where all are read, and where one sticks
-pub filled_all : (out : List ℕ) (i p : ℕ) (o r : Reading (List ℕ)) (f : Filled out i p o r) → r ≡ got [] 0 → written true p out ≡ writes_of o
-filled_all out i p o r f e =
-    ap (written true p) f.holds
-    ∙ ap (λ (j : ℕ). written true j (padded 64 f.passed.values)) (let q : p ≡ p + 0 = omega arith in q)
-    ∙ ap (λ (l : List ℕ). written true (p + 0) (padded 64 l)) (sym (append-nil f.passed.values))
-    ∙ sym (ap writes_of (f.passed.whole ∙ ap (ahead f.passed.values p) e))
+padded_more : (n : ℕ) (l : List ℕ) (v : ℕ) → length l < n → set (padded n l) (length l) v ≡ padded n (l ++ (v ∷ []))
+padded_more n l v h =
+    ap (λ (j : ℕ). set (l ++ replicate j 0) (length l) v) (let q : n - length l ≡ suc (n - (length l + 1)) = omega arith in q)
+    ∙ set_at l 0 (replicate (n - (length l + 1)) 0) v (length l) refl
+    ∙ sym (append_assoc l (v ∷ []) (replicate (n - (length l + 1)) 0))
+    ∙ ap (λ (j : ℕ). (l ++ (v ∷ [])) ++ replicate (n - j) 0) (sym (length-append l (v ∷ [])))
 
-pub filled_stuck : (out : List ℕ) (i p : ℕ) (o r : Reading (List ℕ)) (f : Filled out i p o r) (n : ℕ) → r ≡ stuck n → written false (p + n) (replicate 64 0) ≡ writes_of o
-filled_stuck out i p o r f n e = sym (ap writes_of (f.passed.whole ∙ ap (ahead f.passed.values p) e))
+-- the n places in an array of m
+pub padded_within : (n m : ℕ) (l : List ℕ) → length l ≤ n → n ≤ m → padded n l ++ drop n (replicate m 0) ≡ padded m l
+padded_within n m l h k =
+    ap (λ (x : List ℕ). padded n l ++ x) (drop-replicate n m k) ∙ append_assoc l (replicate (n - length l) 0) (replicate (m - n) 0)
+    ∙ ap (λ (x : List ℕ). l ++ x) (replicate-append (n - length l) (m - n) ∙ ap (λ (j : ℕ). replicate j 0) (let q : n - length l + (m - n) ≡ m - length l = omega arith in q))
 
--- ---- from what is answered to what is read
-pub written_got : (o : Reading (List ℕ)) (r : Writes) → r ≡ writes_of o → r.whole ≡ true → (l : List ℕ) × (o ≡ got l r.size) × (r.writes ≡ padded 64 l)
-written_got (got l n) r e h = (l, ap (got l) (sym (ap (λ (x : Writes). x.size) e)), ap (λ (x : Writes). x.writes) e)
-written_got (stuck n) r e h = absurd (clash h (ap (λ (x : Writes). x.whole) e))
+-- ---- n readings by f in a row, of the bytes s
+module _ (f : List ℕ → Reading ℕ) (n : ℕ) (s : List ℕ) where
+  abbrev pub FilledTo : List ℕ → ℕ → ℕ → Type 0
+  FilledTo out i p = Filled n out i p (read_times f n s) (read_times f (n - i) (drop p s))
 
-pub written_stuck : (o : Reading (List ℕ)) (r : Writes) → r ≡ writes_of o → r.whole ≡ false → o ≡ stuck r.size
-written_stuck (stuck n) r e h = ap stuck (sym (ap (λ (x : Writes). x.size) e))
-written_stuck (got l n) r e h = absurd (clash (ap (λ (x : Writes). x.whole) e) h)
+  pub filled_none : (m : ℕ) → n ≤ m → FilledTo (take n (replicate m 0)) 0 0
+  filled_none m h =
+      record {
+        passed = passed_none (read_times f n s) (read_times f (n - 0) (drop 0 s)) 0 (ap (λ (j : ℕ). read_times f j s) (let q : n ≡ n - 0 = omega arith in q)) refl;
+        holds = take-replicate n m h ∙ ap (λ (j : ℕ). replicate j 0) (let q : n ≡ n - 0 = omega arith in q);
+      }
+
+  module _ (out : List ℕ) (i p : ℕ) (h : FilledTo out i p) where
+    pub filled_more : i < n → (r : Found ℕ) → Passes itself (f (drop p s)) p r → FilledTo (set out i r.value) (i + 1) r.size
+    filled_more k r g =
+        record {
+          passed = passed_more (read_times f n s) i p (read_times f (n - i) (drop p s)) h.passed r.value g.size (read_times f (n - (i + 1)) (drop r.size s)) r.size g.goes
+              (times_more f s p (n - i) r.value g.size (omega arith) (g.here ∙ ap (λ (x : ℕ). got x g.size) (sym g.found))
+              ∙ ap (λ (j : ℕ). ahead (r.value ∷ []) g.size (read_times f j (drop (p + g.size) s))) (let q : n - i - 1 ≡ n - (i + 1) = omega arith in q)
+              ∙ ap (λ (j : ℕ). ahead (r.value ∷ []) g.size (read_times f (n - (i + 1)) (drop j s))) (sym g.goes));
+          holds =
+              ap (λ (x : List ℕ). set x i r.value) h.holds
+              ∙ ap (λ (j : ℕ). set (padded n h.passed.values) j r.value) (sym h.passed.many)
+              ∙ padded_more n h.passed.values r.value (omega (arith, h.passed.many));
+        }
+
+    pub filled_stuck : i < n → (place : ℕ) → Sticks (f (drop p s)) p place → Err place ≡ read_as (padded 64) (read_times f n s)
+    filled_stuck k place g =
+        ap Err g.goes
+        ∙ sym (ap (read_as (padded 64)) (h.passed.whole ∙ ap (ahead h.passed.values p) (times_stuck f s p (n - i) g.size (omega arith) g.here)))
+
+    pub filled_all : n ≤ 64 → i ≤ n → n ≤ i → (w : List ℕ) → w ≡ out ++ drop n (replicate 64 0) → Ok (record { value = w; size = p }) ≡ read_as (padded 64) (read_times f n s)
+    filled_all u up k w e =
+        let l = h.passed.values in
+        let whole = h.passed.whole ∙ ap (ahead l p) (times_end f s p (n - i) (omega arith)) in
+        ap (λ (x : List ℕ). Ok (record { value = x; size = p })) (e ∙ ap (λ (x : List ℕ). x ++ drop n (replicate 64 0)) h.holds ∙ padded_within n 64 l (omega (arith, h.passed.many, up)) u)
+        ∙ ap (λ (j : ℕ). Ok (record { value = padded 64 l; size = j })) (let q : p ≡ p + 0 = omega arith in q)
+        ∙ ap (λ (x : List ℕ). Ok (record { value = padded 64 x; size = p + 0 })) (sym (append-nil l))
+        ∙ sym (ap (read_as (padded 64)) whole)

@@ -7,14 +7,13 @@ mod numbers;
 mod rules;
 
 ghost use Rattle.std.specs.Prelude.{◌≡◌, length};
-ghost use Rattle.text.specs.Code.{stuck};
 ghost use Rattle.grammar.specs.Read.{read_sheet};
 ghost use Rattle.grammar.specs.Given.{fields_in, annotation_from, line_at};
-ghost use Rattle.scan.specs.Steps.{outline_of};
+ghost use Rattle.scan.specs.Steps.{Fits, behind as behindReading, outline_of};
 
-use lines::keyed_line;
+use lines::{Deed, keyed_line};
 use notes::{annotation_line, annotation_lines, annotation_start};
-use numbers::{hex_value, write_lines};
+use numbers::{hex_line, write_lines};
 use rules::ruled_count;
 use settings::Rule;
 
@@ -29,61 +28,33 @@ const WRITES_KEY: [u8; 7] = *b"writes=";
 
 const AT_KEY: [u8; 3] = *b"at=";
 
-// The classes of bytes that fields are made of.
+// What a reading finds at the start of some bytes, and how many bytes it reads.
 #[derive(Clone, Copy)]
-enum Class {
-    Deed,
-    Hex,
-    Key,
-    Value,
-    RuleDigit,
-}
-
-// How far a reading goes: whether it is whole, and its number of bytes or the place where it sticks.
-#[derive(Clone, Copy)]
-struct Step {
-    whole: bool,
+struct Found<T> {
+    value: T,
     size: usize,
 }
 
-// How far a reading goes, and a number that it finds.
-#[derive(Clone, Copy)]
-struct Counted {
-    whole: bool,
-    size: usize,
-    count: usize,
+// A reading: what it finds, or the place where it sticks, counted from its own beginning.
+type Reading<T> = Result<Found<T>, usize>;
+
+// The same reading counted from `before` bytes further ahead, behind which it stands.
+fn behind<T>(before: usize, reading: Reading<T>) -> Reading<T>
+    requires { Fits before reading }
+    ensures { result ≡ behindReading before reading }
+{
+    match reading {
+        Ok(found) => Ok(Found {
+            value: found.value,
+            size: before + found.size,
+        }),
+        Err(place) => Err(before + place),
+    }
 }
 
-// How far a reading goes, and the rule that it finds.
-#[derive(Clone, Copy)]
-struct Ruled {
-    whole: bool,
-    size: usize,
-    rule: Rule,
-}
-
-// How far a reading goes, the rule, and the number of writes.
-#[derive(Clone, Copy)]
-struct RuledCount {
-    whole: bool,
-    size: usize,
-    rule: Rule,
-    count: usize,
-}
-
-// How far a reading goes, and the write addresses that it finds.
-#[derive(Clone, Copy)]
-struct Writes {
-    whole: bool,
-    size: usize,
-    writes: [u16; 64],
-}
-
-// What one pass over a sheet finds: its fields, the length of its deed and where its annotations begin, or the place where it is broken.
+// What one pass over a sheet finds: its fields, the length of its deed and where its annotations begin.
 #[derive(Clone, Copy)]
 pub struct Outline {
-    pub whole: bool,
-    pub place: usize,
     pub deed: usize,
     pub pins: u8,
     pub rule: Rule,
@@ -100,65 +71,26 @@ pub struct Span {
     pub size: usize,
 }
 
-// The outline of a sheet that is broken at the place.
-fn broken(place: usize) -> Outline
-    ensures { result ≡ outline_of (stuck place) }
-{
-    Outline {
-        whole: false,
-        place,
-        deed: 0,
-        pins: 0,
-        rule: Rule::One,
-        writes: [0u16; 64],
-        write_count: 0,
-        tail: 0,
-        annotations: 0,
-    }
-}
-
-// One pass over a sheet, line by line in their order.
-pub fn survey(s: &[u8]) -> Outline
+// One pass over a sheet, line by line in their order, or the place where the sheet is broken.
+pub fn survey(s: &[u8]) -> Result<Outline, usize>
     ensures { result ≡ outline_of (read_sheet s.now) }
 {
-    let deed = keyed_line(s, 0, &DEED_KEY, Class::Deed, 1, 16);
-    if !deed.whole {
-        return broken(deed.size);
-    }
-    let pins_at = deed.size;
-    let pins = keyed_line(s, pins_at, &PINS_KEY, Class::Hex, 2, 2);
-    if !pins.whole {
-        return broken(pins_at + pins.size);
-    }
-    let rule_at = pins_at + pins.size;
-    let ruled = ruled_count(s, rule_at);
-    if !ruled.whole {
-        return broken(rule_at + ruled.size);
-    }
-    let writes_at = rule_at + ruled.size;
-    let lines = write_lines(s, writes_at, ruled.count);
-    if !lines.whole {
-        return broken(writes_at + lines.size);
-    }
-    let tail = writes_at + lines.size;
-    let notes = annotation_lines(s, tail);
-    if !notes.whole {
-        return broken(tail + notes.size);
-    }
-    let rule = ruled.rule;
-    let writes = lines.writes;
-    // Beside the deed its line has `deed=` and the line end, 6 bytes.
-    Outline {
-        whole: true,
-        place: 0,
-        deed: deed.size - 6,
-        pins: hex_value(s, pins_at + PINS_KEY.len(), 2) as u8,
+    let deed = keyed_line::<Deed>(s, &DEED_KEY, 1, 16)?;
+    let pins = behind(deed.size, hex_line(&s[deed.size..], &PINS_KEY, 2))?;
+    let ruled = behind(pins.size, ruled_count(&s[pins.size..]))?;
+    let (rule, write_count) = ruled.value;
+    let lines = behind(ruled.size, write_lines(&s[ruled.size..], write_count))?;
+    let writes = lines.value;
+    let notes = behind(lines.size, annotation_lines(&s[lines.size..]))?;
+    Ok(Outline {
+        deed: deed.value,
+        pins: pins.value as u8,
         rule,
         writes,
-        write_count: ruled.count,
-        tail,
-        annotations: notes.count,
-    }
+        write_count,
+        tail: lines.size,
+        annotations: notes.value,
+    })
 }
 
 // Where annotation line n, counted from 0, lies, and how long it is without its line end; past the last, and of a refused sheet, both are 0.
@@ -166,14 +98,15 @@ pub fn annotation(s: &[u8], n: usize) -> Span
     ensures from_value { result.from ≡ annotation_from s.now n }
     ensures size_value { result.size ≡ length (line_at (fields_in s.now).annotations n) }
 {
-    let found = survey(s);
-    if n < found.annotations {
-        let from = annotation_start(s, found.tail, n);
-        let line = annotation_line(s, from);
-        return Span {
-            from,
-            size: line.size - 1,
-        };
+    match survey(s) {
+        Ok(found) if n < found.annotations => {
+            let from = annotation_start(s, found.tail, n);
+            let line = annotation_line(&s[from..]).unwrap();
+            Span {
+                from,
+                size: line.size - 1,
+            }
+        }
+        _ => Span { from: 0, size: 0 },
     }
-    Span { from: 0, size: 0 }
 }

@@ -1,91 +1,55 @@
 // Annotation lines: each by its key and value, and how many there are.
-ghost use Rattle.std.specs.Prelude.{◌≡◌, ◌+◌, ◌<◌, ◌≤◌, true, length, take, drop};
-ghost use Rattle.grammar.specs.Sheet.{same};
+ghost use Rattle.std.specs.Prelude.{◌≡◌, ◌<◌, true, length};
 ghost use Rattle.grammar.specs.Read.{read_annotation, read_annotations};
 ghost use Rattle.grammar.specs.Given.{accepted, fields_in, tail_from, annotation_from};
-ghost use Rattle.scan.specs.Steps.{step_of, counted_of, free_key};
+ghost use Rattle.scan.specs.Steps.{Within, read_as, whole, free_key};
 
-use crate::lines::{closed_run, common_bytes};
-use crate::{AT_KEY, Class, Counted, DEED_KEY, PINS_KEY, Step, WRITES_KEY};
+use crate::lines::{Key, Value, closed_run};
+use crate::{AT_KEY, DEED_KEY, Found, PINS_KEY, Reading, WRITES_KEY, behind};
 
-// Whether the `n` bytes from `at` on are the key.
-fn is_key(s: &[u8], at: usize, n: usize, key: &[u8]) -> bool
-    requires { at + n ≤ length s.now }
-    ensures { result ≡ same (take n (drop at s.now)) key.now }
+// Whether a key with its `=` is none of those that no annotation has; `rule` stays free.
+fn is_free(key: &[u8]) -> bool
+    ensures { result ≡ free_key key.now }
 {
-    if n == key.len() {
-        return common_bytes(s, at, key) == n;
-    }
-    false
+    key != &DEED_KEY[..] && key != &PINS_KEY[..] && key != &WRITES_KEY[..] && key != &AT_KEY[..]
 }
 
-// Whether the `n` bytes from `at` on, a key with its `=`, are none of those that no annotation has; `rule` stays free.
-fn is_free(s: &[u8], at: usize, n: usize) -> bool
-    requires { at + n ≤ length s.now }
-    ensures { result ≡ free_key (take n (drop at s.now)) }
+// An annotation line, with its line end.
+pub(crate) fn annotation_line(rest: &[u8]) -> Reading<()>
+    ensures value { result ≡ read_as whole (read_annotation rest.now) }
+    ensures size_in_bounds { Within (length rest.now) result }
 {
-    let deed = is_key(s, at, n, &DEED_KEY);
-    let pins = is_key(s, at, n, &PINS_KEY);
-    let writes = is_key(s, at, n, &WRITES_KEY);
-    let at_key = is_key(s, at, n, &AT_KEY);
-    !(deed | (pins | (writes | at_key)))
+    let key = closed_run::<Key>(rest, 1, 16, b'=')?;
+    if !is_free(&rest[..key.size]) {
+        return Err(key.value);
+    }
+    let value = behind(
+        key.size,
+        closed_run::<Value>(&rest[key.size..], 0, 120, b'\n'),
+    )?;
+    Ok(Found {
+        value: (),
+        size: value.size,
+    })
 }
 
-// An annotation line from `at` on, with its line end.
-pub(crate) fn annotation_line(s: &[u8], at: usize) -> Step
-    requires { at ≤ length s.now }
-    ensures value { result ≡ step_of (read_annotation (drop at s.now)) }
-    ensures size_in_bounds { at + result.size ≤ length s.now }
+// How many annotation lines stand there to the end, at most 200.
+pub(crate) fn annotation_lines(rest: &[u8]) -> Reading<usize>
+    ensures value { result ≡ read_as length (read_annotations rest.now) }
+    ensures size_in_bounds { Within (length rest.now) result }
 {
-    let key = closed_run(s, at, Class::Key, 1, 16, b'=');
-    if !key.whole {
-        return key;
-    }
-    if !is_free(s, at, key.size) {
-        return Step {
-            whole: false,
-            size: key.size - 1,
-        };
-    }
-    let value = closed_run(s, at + key.size, Class::Value, 0, 120, 10);
-    Step {
-        whole: value.whole,
-        size: key.size + value.size,
-    }
-}
-
-// How many annotation lines stand from `from` to the end, at most 200.
-pub(crate) fn annotation_lines(s: &[u8], from: usize) -> Counted
-    requires { from ≤ length s.now }
-    ensures value { result ≡ counted_of length (read_annotations (drop from s.now)) }
-    ensures size_in_bounds { from + result.size ≤ length s.now }
-{
-    let mut at = from;
-    let mut many: usize = 0;
-    while at < s.len() {
-        if 200 <= many {
-            return Counted {
-                whole: false,
-                size: at - from,
-                count: 0,
-            };
+    let mut size = 0;
+    let mut many = 0;
+    // Kept as a `while`: because each turn goes on by the size of the line that it reads, which no range or iterator counts.
+    while size < rest.len() {
+        if many == 200 {
+            return Err(size);
         }
-        let line = annotation_line(s, at);
-        if !line.whole {
-            return Counted {
-                whole: false,
-                size: at - from + line.size,
-                count: 0,
-            };
-        }
-        at += line.size;
+        let line = behind(size, annotation_line(&rest[size..]))?;
+        size = line.size;
         many += 1;
     }
-    Counted {
-        whole: true,
-        size: at - from,
-        count: many,
-    }
+    Ok(Found { value: many, size })
 }
 
 // Where annotation n of a whole sheet lies, the annotation lines beginning at `from`.
@@ -95,11 +59,9 @@ pub(crate) fn annotation_start(s: &[u8], from: usize, n: usize) -> usize
     ensures { result ≡ annotation_from s.now n }
 {
     let mut at = from;
-    let mut k: usize = 0;
-    while k < n {
-        let line = annotation_line(s, at);
+    for _ in 0..n {
+        let line = annotation_line(&s[at..]).unwrap();
         at += line.size;
-        k += 1;
     }
     at
 }

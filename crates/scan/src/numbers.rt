@@ -1,63 +1,65 @@
 // The number of writes, their lines, and the numbers that hex digits make.
-ghost use Rattle.std.specs.Prelude.{◌≡◌, ◌+◌, ◌≤◌, true, length, take, drop};
-ghost use Rattle.text.specs.Combine.{All, read_times};
-ghost use Rattle.text.specs.Hex.{hex_byte, unhex, hex_value};
+ghost use Rattle.std.specs.Prelude.{◌≡◌, ◌^◌, ◌<◌, ◌≤◌, IfOk, true, length};
+ghost use Rattle.text.specs.Combine.{All, read_led, read_times};
+ghost use Rattle.text.specs.Hex.{hex_byte, unhex, hex_value, read_hex};
 ghost use Rattle.grammar.specs.Read.{closing as closingRead, more, read_second, read_number, read_count, read_at};
-ghost use Rattle.scan.specs.Steps.{counted_of, writes_of};
+ghost use Rattle.grammar.specs.Given.{padded};
+ghost use Rattle.scan.specs.Steps.{Within, read_as, itself};
 
-use crate::lines::{common_bytes, keyed_line, within};
-use crate::{AT_KEY, Class, Counted, WRITES_KEY, Writes};
+use crate::lines::{Hex, keyed_line, word};
+use crate::{AT_KEY, Found, Reading, WRITES_KEY, behind};
 
 // The number of the hex digit b.
 fn digit_of(b: u8) -> u16
     requires { hex_byte b ≡ true }
     ensures { result ≡ unhex b }
 {
-    if b < 58 {
-        return (b - 48) as u16;
+    if b <= b'9' {
+        return u16::from(b - b'0');
     }
-    (b - 55) as u16
+    u16::from(b - b'A' + 10)
 }
 
-// The number that the `n` hex digits from `at` on make.
-pub(crate) fn hex_value(s: &[u8], at: usize, n: usize) -> u16
-    requires n_bound { (n ≤ 4) × (at + n ≤ length s.now) }
-    requires all { All hex_byte (take n (drop at s.now)) }
-    ensures { result ≡ hex_value (take n (drop at s.now)) }
+// The number that hex digits make.
+#[tactic(auto, using(text::proofs::Hexes::all_at, text::proofs::Hexes::value_all))]
+fn hex_value(digits: &[u8]) -> u16
+    requires size { length digits.now ≤ 4 }
+    requires all { All hex_byte digits.now }
+    ensures { result ≡ hex_value digits.now }
 {
-    let mut v: u16 = 0;
-    let mut i: usize = 0;
-    while i < n {
-        v = 16 * v + digit_of(s[at + i]);
-        i += 1;
+    let mut v = 0;
+    for b in digits {
+        v = 16 * v + digit_of(*b);
     }
     v
 }
 
-// The line end from `at` on, after the number v.
-fn closing(s: &[u8], at: usize, v: u8) -> Counted
-    requires { at ≤ length s.now }
-    ensures value { result ≡ counted_of (λ n. n) (closingRead v (drop at s.now)) }
-    ensures size_in_bounds { at + result.size ≤ length s.now }
+// A line of the key and `many` hex digits, and the number that they make.
+pub(crate) fn hex_line(rest: &[u8], key: &[u8], many: usize) -> Reading<u16>
+    requires { many ≤ 4 }
+    ensures value { result ≡ read_as itself (read_led key.now (read_hex many 10) rest.now) }
+    ensures number_in_bounds { IfOk result (λ found. found.value < 16 ^ many) }
+    ensures size_in_bounds { Within (length rest.now) result }
 {
-    if s.len() <= at {
-        return Counted {
-            whole: false,
-            size: 0,
-            count: 0,
-        };
-    }
-    if s[at] == 10 {
-        return Counted {
-            whole: true,
+    let line = keyed_line::<Hex>(rest, key, many, many)?;
+    let from = key.len();
+    Ok(Found {
+        value: hex_value(&rest[from..from + many]),
+        size: line.size,
+    })
+}
+
+// The line end, after the number v.
+fn closing(rest: &[u8], v: u8) -> Reading<usize>
+    ensures value { result ≡ read_as itself (closingRead v rest.now) }
+    ensures size_in_bounds { Within (length rest.now) result }
+{
+    match rest {
+        [b'\n', ..] => Ok(Found {
+            value: usize::from(v),
             size: 1,
-            count: v as usize,
-        };
-    }
-    Counted {
-        whole: false,
-        size: 0,
-        count: 0,
+        }),
+        _ => Err(0),
     }
 }
 
@@ -66,113 +68,56 @@ fn is_more(d: u8, c: u8) -> bool
     requires { d ≤ 9 }
     ensures { result ≡ more d c }
 {
-    if within(b'0', b'9', c) {
-        return (1 <= d) & (10 * d + (c - 48) <= 64);
-    }
-    false
+    matches!(c, b'0'..=b'9') && 1 <= d && 10 * d + (c - b'0') <= 64
 }
 
 // What follows the first digit d of the number of writes: a second digit or none, and the line end.
-fn second_digit(s: &[u8], at: usize, d: u8) -> Counted
-    requires { (at ≤ length s.now) × (d ≤ 9) }
-    ensures value { result ≡ counted_of (λ n. n) (read_second d (drop at s.now)) }
-    ensures size_in_bounds { at + result.size ≤ length s.now }
+fn second_digit(rest: &[u8], d: u8) -> Reading<usize>
+    requires { d ≤ 9 }
+    ensures value { result ≡ read_as itself (read_second d rest.now) }
+    ensures size_in_bounds { Within (length rest.now) result }
 {
-    if s.len() <= at {
-        return Counted {
-            whole: false,
-            size: 0,
-            count: 0,
-        };
-    }
-    let c = s[at];
-    if is_more(d, c) {
-        let end = closing(s, at + 1, 10 * d + (c - 48));
-        return Counted {
-            whole: end.whole,
-            size: end.size + 1,
-            count: end.count,
-        };
-    }
-    closing(s, at, d)
-}
-
-// The number of writes from `at` on, and the line end.
-fn write_number(s: &[u8], at: usize) -> Counted
-    requires { at ≤ length s.now }
-    ensures value { result ≡ counted_of (λ n. n) (read_number (drop at s.now)) }
-    ensures size_in_bounds { at + result.size ≤ length s.now }
-{
-    if s.len() <= at {
-        return Counted {
-            whole: false,
-            size: 0,
-            count: 0,
-        };
-    }
-    let b = s[at];
-    if within(b'0', b'9', b) {
-        let next = second_digit(s, at + 1, b - 48);
-        return Counted {
-            whole: next.whole,
-            size: next.size + 1,
-            count: next.count,
-        };
-    }
-    Counted {
-        whole: false,
-        size: 0,
-        count: 0,
+    match rest {
+        [c, end @ ..] if is_more(d, *c) => behind(1, closing(end, 10 * d + (*c - b'0'))),
+        _ => closing(rest, d),
     }
 }
 
-// The line `writes=` from `at` on.
-pub(crate) fn count_line(s: &[u8], at: usize) -> Counted
-    requires { at ≤ length s.now }
-    ensures value { result ≡ counted_of (λ n. n) (read_count (drop at s.now)) }
-    ensures size_in_bounds { at + result.size ≤ length s.now }
+// The number of writes, and the line end.
+fn write_number(rest: &[u8]) -> Reading<usize>
+    ensures value { result ≡ read_as itself (read_number rest.now) }
+    ensures size_in_bounds { Within (length rest.now) result }
 {
-    let n = common_bytes(s, at, &WRITES_KEY);
-    if n < WRITES_KEY.len() {
-        return Counted {
-            whole: false,
-            size: n,
-            count: 0,
-        };
-    }
-    let number = write_number(s, at + n);
-    Counted {
-        whole: number.whole,
-        size: n + number.size,
-        count: number.count,
+    match rest {
+        [b @ b'0'..=b'9', end @ ..] => behind(1, second_digit(end, *b - b'0')),
+        _ => Err(0),
     }
 }
 
-// `count` lines `at=` from `from` on, with their addresses.
-pub(crate) fn write_lines(s: &[u8], from: usize, count: usize) -> Writes
-    requires { (from ≤ length s.now) × (count ≤ 64) }
-    ensures value { result ≡ writes_of (read_times read_at count (drop from s.now)) }
-    ensures size_in_bounds { from + result.size ≤ length s.now }
+// The line `writes=`, and the number of writes.
+pub(crate) fn count_line(rest: &[u8]) -> Reading<usize>
+    ensures value { result ≡ read_as itself (read_count rest.now) }
+    ensures size_in_bounds { Within (length rest.now) result }
 {
-    let mut out = [0u16; 64];
-    let mut at = from;
-    let mut i: usize = 0;
-    while i < count {
-        let line = keyed_line(s, at, &AT_KEY, Class::Hex, 4, 4);
-        if !line.whole {
-            return Writes {
-                whole: false,
-                size: at - from + line.size,
-                writes: [0u16; 64],
-            };
-        }
-        out[i] = hex_value(s, at + AT_KEY.len(), 4);
-        at += line.size;
-        i += 1;
+    let begun = word(rest, &WRITES_KEY)?;
+    behind(begun.size, write_number(&rest[begun.size..]))
+}
+
+// `count` lines `at=`, and their addresses.
+pub(crate) fn write_lines(rest: &[u8], count: usize) -> Reading<[u16; 64]>
+    requires { count ≤ 64 }
+    ensures value { result ≡ read_as (padded 64) (read_times read_at count rest.now) }
+    ensures size_in_bounds { Within (length rest.now) result }
+{
+    let mut writes = [0; 64];
+    let mut size = 0;
+    for write in &mut writes[..count] {
+        let line = behind(size, hex_line(&rest[size..], &AT_KEY, 4))?;
+        *write = line.value;
+        size = line.size;
     }
-    Writes {
-        whole: true,
-        size: at - from,
-        writes: out,
-    }
+    Ok(Found {
+        value: writes,
+        size,
+    })
 }

@@ -1,81 +1,53 @@
 // The line of the rule, where it stands, and the number of writes after it.
-ghost use Rattle.std.specs.Prelude.{◌≡◌, ◌+◌, ◌≤◌, [], ◌∷◌, length, drop};
+ghost use Rattle.std.specs.Prelude.{◌≡◌, [], ◌∷◌, length};
 ghost use Rattle.grammar.specs.Read.{rule_of, read_rule, read_ruled_count};
-ghost use Rattle.scan.specs.Steps.{ruled_of, ruled_count_of};
+ghost use Rattle.grammar.specs.Given.{rule_given};
+ghost use Rattle.scan.specs.Steps.{Within, read_as, ruled};
 
-use crate::lines::{common_bytes, keyed_line};
+use crate::lines::{RuleDigit, keyed_line};
 use crate::numbers::count_line;
-use crate::{Class, RULE_KEY, Ruled, RuledCount};
+use crate::{Found, RULE_KEY, Reading, behind};
 use settings::Rule;
 
 // The rule of the digit b.
 fn rule_of(b: u8) -> Rule
     ensures { result ≡ rule_of (b ∷ []) }
 {
-    if b == b'1' {
-        return Rule::One;
+    match b {
+        b'1' => Rule::One,
+        _ => Rule::Two,
     }
-    Rule::Two
 }
 
-// The line `rule=` from `at` on, if it stands there: no other line that may stand there begins with r.
-fn rule_line(s: &[u8], at: usize) -> Ruled
-    requires { at ≤ length s.now }
-    ensures value { result ≡ ruled_of (read_rule (drop at s.now)) }
-    ensures size_in_bounds { at + result.size ≤ length s.now }
+// The line `rule=`, if it stands there: no other line that may stand there begins with r.
+fn rule_line(rest: &[u8]) -> Reading<Rule>
+    ensures value { result ≡ read_as rule_given (read_rule rest.now) }
+    ensures size_in_bounds { Within (length rest.now) result }
 {
-    if common_bytes(s, at, &RULE_KEY) == 0 {
-        return Ruled {
-            whole: true,
+    match rest {
+        [b'r', ..] => {
+            let line = keyed_line::<RuleDigit>(rest, &RULE_KEY, 1, 1)?;
+            Ok(Found {
+                value: rule_of(rest[RULE_KEY.len()]),
+                size: line.size,
+            })
+        }
+        _ => Ok(Found {
+            value: Rule::One,
             size: 0,
-            rule: Rule::One,
-        };
-    }
-    let line = keyed_line(s, at, &RULE_KEY, Class::RuleDigit, 1, 1);
-    if !line.whole {
-        return Ruled {
-            whole: false,
-            size: line.size,
-            rule: Rule::One,
-        };
-    }
-    let rule = rule_of(s[at + RULE_KEY.len()]);
-    Ruled {
-        whole: true,
-        size: line.size,
-        rule,
+        }),
     }
 }
 
-// The line `rule=` from `at` on, if it stands there, and then the line `writes=`.
-pub(crate) fn ruled_count(s: &[u8], at: usize) -> RuledCount
-    requires { at ≤ length s.now }
-    ensures value { result ≡ ruled_count_of (read_ruled_count (drop at s.now)) }
-    ensures size_in_bounds { at + result.size ≤ length s.now }
+// The line `rule=`, if it stands there, and then the line `writes=`: the rule, and the number of writes.
+pub(crate) fn ruled_count(rest: &[u8]) -> Reading<(Rule, usize)>
+    ensures value { result ≡ read_as ruled (read_ruled_count rest.now) }
+    ensures size_in_bounds { Within (length rest.now) result }
 {
-    let line = rule_line(s, at);
-    if !line.whole {
-        return RuledCount {
-            whole: false,
-            size: line.size,
-            rule: Rule::One,
-            count: 0,
-        };
-    }
-    let count = count_line(s, at + line.size);
-    if !count.whole {
-        return RuledCount {
-            whole: false,
-            size: line.size + count.size,
-            rule: Rule::One,
-            count: 0,
-        };
-    }
-    let rule = line.rule;
-    RuledCount {
-        whole: true,
-        size: line.size + count.size,
-        rule,
-        count: count.count,
-    }
+    let line = rule_line(rest)?;
+    let count = behind(line.size, count_line(&rest[line.size..]))?;
+    Ok(Found {
+        value: (line.value, count.value),
+        size: count.size,
+    })
 }

@@ -22,15 +22,15 @@ fn length_answer(
     ensures { told_of result ≡ first_of (show_lengths settings image font strip frame) (done (border settings.look)) }
 {
     let look = settings.look;
-    let mut answer = Answer::Done(settings::border(look) as usize);
-    answer = settings::pins_above(answer, look);
-    answer = settings::fast_rate(answer, settings);
-    answer = settings::image_length(answer, image);
-    answer = settings::not_suited(answer, settings, image);
-    answer = settings::font_length(answer, look, font);
-    answer = settings::short_strip(answer, look, strip);
-    answer = settings::short_frame(answer, frame);
-    strip::not_fitted(answer, settings, image)
+    settings::pins_above(look)?;
+    settings::fast_rate(settings)?;
+    settings::image_length(image)?;
+    settings::not_suited(settings, image)?;
+    settings::font_length(look, font)?;
+    settings::short_strip(look, strip)?;
+    settings::short_frame(frame)?;
+    strip::not_fitted(settings, image)?;
+    Ok(usize::from(settings::border(look)))
 }
 
 // The work, where no length is refused: the bytes are fetched into an array here, and stored in the strip once drawing them is not refused.
@@ -49,12 +49,9 @@ fn render(
     let look = settings.look;
     let mut bytes = [0u8; 6144];
     strip::fetch(settings, image, &mut bytes);
-    let answer = frame::draw(look, font, &bytes, frame);
-    if answer::number(answer) != 0 {
-        return answer;
-    }
+    let border = frame::draw(look, font, &bytes, frame)?;
     buffer::store(&bytes, settings::strip_length(look), strip);
-    answer
+    Ok(border)
 }
 
 // Fetches the strip and draws it: done with the border, or refused with both buffers as they were.
@@ -69,9 +66,6 @@ pub fn show(
     ensures bytes { strip.new ≡ strip_shown settings image.now font.now strip.old frame.old }
     ensures pixels { frame.new ≡ frame_shown settings image.now font.now strip.old frame.old }
 {
-    let answer = length_answer(settings, image.len(), font.len(), strip.len(), frame.len());
-    if answer::number(answer) != 0 {
-        return answer;
-    }
+    length_answer(settings, image.len(), font.len(), strip.len(), frame.len())?;
     render(settings, image, font, strip, frame)
 }

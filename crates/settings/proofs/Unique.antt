@@ -2,7 +2,7 @@
 use mathlib.Core.Path.{refl, sym, ◌∙◌}
 use base.Logic.{emp, id⊢}
 use Rattle.promises.specs.Fixes.{Operation, Fixes, whole, one_tells}
-use Rattle.answer.proofs.Answers.{one_answer}
+use Rattle.answer.proofs.Answers.{one_says}
 use Rattle.settings.proofs.video_mode as video_mode
 use Rattle.settings.specs.contracts.video_mode as video_mode_contract
 use Rattle.settings.proofs.offset as offset
@@ -171,7 +171,7 @@ pub pins_above_fixes : Fixes pins_above_op
 pins_above_fixes = record {
   takes_all = λ w κs a g. id⊢ w.𝓤 (emp w.𝓤);
   tells = λ w κs a g z e. one_tells w.𝓤 _;
-  one_outcome = λ κs a z z' ws ws' p q. (one_answer p q, refl);
+  one_outcome = λ κs a z z' ws ws' p q. (one_says _ _ _ p q, refl);
 }
 
 abbrev pub text_back_op : Operation
@@ -181,7 +181,7 @@ pub text_back_fixes : Fixes text_back_op
 text_back_fixes = record {
   takes_all = λ w κs a g. id⊢ w.𝓤 (emp w.𝓤);
   tells = λ w κs a g z e. one_tells w.𝓤 _;
-  one_outcome = λ κs a z z' ws ws' p q. (one_answer p q, refl);
+  one_outcome = λ κs a z z' ws ws' p q. (one_says _ _ _ p q, refl);
 }
 
 abbrev pub fast_rate_op : Operation
@@ -191,7 +191,7 @@ pub fast_rate_fixes : Fixes fast_rate_op
 fast_rate_fixes = record {
   takes_all = λ w κs a g. id⊢ w.𝓤 (emp w.𝓤);
   tells = λ w κs a g z e. one_tells w.𝓤 _;
-  one_outcome = λ κs a z z' ws ws' p q. (one_answer p q, refl);
+  one_outcome = λ κs a z z' ws ws' p q. (one_says _ _ _ p q, refl);
 }
 
 abbrev pub image_length_op : Operation
@@ -201,7 +201,7 @@ pub image_length_fixes : Fixes image_length_op
 image_length_fixes = record {
   takes_all = λ w κs a g. id⊢ w.𝓤 (emp w.𝓤);
   tells = λ w κs a g z e. one_tells w.𝓤 _;
-  one_outcome = λ κs a z z' ws ws' p q. (one_answer p q, refl);
+  one_outcome = λ κs a z z' ws ws' p q. (one_says _ _ _ p q, refl);
 }
 
 abbrev pub not_suited_op : Operation
@@ -211,7 +211,7 @@ pub not_suited_fixes : Fixes not_suited_op
 not_suited_fixes = record {
   takes_all = λ w κs a g. id⊢ w.𝓤 (emp w.𝓤);
   tells = λ w κs a g z e. one_tells w.𝓤 _;
-  one_outcome = λ κs a z z' ws ws' p q. (one_answer p q, refl);
+  one_outcome = λ κs a z z' ws ws' p q. (one_says _ _ _ p q, refl);
 }
 
 abbrev pub font_length_op : Operation
@@ -221,7 +221,7 @@ pub font_length_fixes : Fixes font_length_op
 font_length_fixes = record {
   takes_all = λ w κs a g. id⊢ w.𝓤 (emp w.𝓤);
   tells = λ w κs a g z e. one_tells w.𝓤 _;
-  one_outcome = λ κs a z z' ws ws' p q. (one_answer p q, refl);
+  one_outcome = λ κs a z z' ws ws' p q. (one_says _ _ _ p q, refl);
 }
 
 abbrev pub short_strip_op : Operation
@@ -231,7 +231,7 @@ pub short_strip_fixes : Fixes short_strip_op
 short_strip_fixes = record {
   takes_all = λ w κs a g. id⊢ w.𝓤 (emp w.𝓤);
   tells = λ w κs a g z e. one_tells w.𝓤 _;
-  one_outcome = λ κs a z z' ws ws' p q. (one_answer p q, refl);
+  one_outcome = λ κs a z z' ws ws' p q. (one_says _ _ _ p q, refl);
 }
 
 abbrev pub short_frame_op : Operation
@@ -241,5 +241,5 @@ pub short_frame_fixes : Fixes short_frame_op
 short_frame_fixes = record {
   takes_all = λ w κs a g. id⊢ w.𝓤 (emp w.𝓤);
   tells = λ w κs a g z e. one_tells w.𝓤 _;
-  one_outcome = λ κs a z z' ws ws' p q. (one_answer p q, refl);
+  one_outcome = λ κs a z z' ws ws' p q. (one_says _ _ _ p q, refl);
 }

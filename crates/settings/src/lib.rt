@@ -2,14 +2,13 @@
 #![tactic(auto)]
 
 ghost use Rattle.std.specs.Prelude.{◌≡◌, ◌<◌};
-ghost use Rattle.promises.specs.Order.{after};
-ghost use Rattle.answer.specs.Told.{told_of};
+ghost use Rattle.answer.specs.Told.{Says};
 ghost use Rattle.settings.specs.Fields.{bits, video_mode, offset, fast, memory, graphics, external, gm, css};
 ghost use Rattle.settings.specs.Banks.{bank_bit, full_size, suited};
 ghost use Rattle.settings.specs.Refusals.{image_fits, strip_length, pins_above, text_back, fast_rate, image_length, not_suited, font_length, short_strip, short_frame};
 ghost use Rattle.settings.specs.Modes.{width, dots, border, font_size, mode_name, named};
 
-use answer::{Answer, Unfit};
+use answer::Refusal;
 
 // The look of a frame: the pin byte, fixed for a frame.
 #[derive(Clone, Copy)]
@@ -51,6 +50,7 @@ const KINDS: [u8; 8] = [b'C', b'R', b'C', b'R', b'C', b'R', b'C', b'R'];
 const DIGITS: [u8; 8] = [b'1', b'1', b'2', b'2', b'3', b'3', b'6', b'6'];
 
 // `count` bits of `word` from bit `at` on: every field of the word and of the pin byte is read so.
+#[tactic(auto, using(crate::proofs::Masks::masked))]
 fn field(word: u16, at: u16, count: u16) -> u16
     requires { (at < 16) × (count < 16) }
     ensures { result ≡ bits word at count }
@@ -138,6 +138,7 @@ pub fn css(look: Look) -> u8
 }
 
 // W, the bytes a line.
+#[tactic(auto, unfolding(crate::specs::Modes::width))]
 pub fn width(look: Look) -> usize
     ensures { result ≡ width look }
 {
@@ -146,6 +147,7 @@ pub fn width(look: Look) -> usize
 }
 
 // 192 × W, the length of a strip.
+#[tactic(auto, using(crate::proofs::Widths::width_le))]
 pub fn strip_length(look: Look) -> usize
     ensures { result ≡ strip_length look }
 {
@@ -153,6 +155,7 @@ pub fn strip_length(look: Look) -> usize
 }
 
 // The dots per element; a text byte's dots stand for themselves.
+#[tactic(auto, unfolding(crate::specs::Modes::dots))]
 pub fn dots(look: Look) -> usize
     ensures { result ≡ dots look }
 {
@@ -161,6 +164,7 @@ pub fn dots(look: Look) -> usize
 }
 
 // The border's colour.
+#[tactic(auto, unfolding(crate::specs::Modes::border))]
 pub fn border(look: Look) -> u8
     ensures { result ≡ border look }
 {
@@ -178,6 +182,7 @@ pub fn border(look: Look) -> u8
 }
 
 // The mode's name, as a report gives it.
+#[tactic(auto, unfolding(crate::specs::Modes::mode_name))]
 pub fn mode_name(look: Look) -> Name
     ensures { result ≡ named (mode_name look) }
 {
@@ -200,51 +205,46 @@ pub fn mode_name(look: Look) -> Name
     }
 }
 
-// The checks of document 01's table by settings and lengths. Each is coded only here, as the answer after one more check.
+// The checks of document 01's table by settings and lengths. Each is coded only here.
 
 // 1: pin byte above 63.
-pub fn pins_above(answer: Answer, look: Look) -> Answer
-    ensures { told_of result ≡ after (pins_above look) (told_of answer) }
+pub fn pins_above(look: Look) -> Result<(), Refusal>
+    ensures { Says (pins_above look) result }
 {
-    answer::check(answer, 63 < look.pins, Answer::Unfit(Unfit::PinsAbove))
+    answer::refuse(63 < look.pins, Refusal::PinsAbove)
 }
 
 // 3: reading back with A/G = 0.
-pub fn text_back(answer: Answer, look: Look) -> Answer
-    ensures { told_of result ≡ after (text_back look) (told_of answer) }
+pub fn text_back(look: Look) -> Result<(), Refusal>
+    ensures { Says (text_back look) result }
 {
-    answer::check(answer, !graphics(look), Answer::Unfit(Unfit::TextBack))
+    answer::refuse(!graphics(look), Refusal::TextBack)
 }
 
 // 4: R1 = 1.
-pub fn fast_rate(answer: Answer, settings: Settings) -> Answer
-    ensures { told_of result ≡ after (fast_rate settings) (told_of answer) }
+pub fn fast_rate(settings: Settings) -> Result<(), Refusal>
+    ensures { Says (fast_rate settings) result }
 {
-    answer::check(answer, fast(settings), Answer::Unfit(Unfit::FastRate))
+    answer::refuse(fast(settings), Refusal::FastRate)
 }
 
 // Whether an image may have this length.
+#[tactic(auto, unfolding(crate::specs::Refusals::image_fits))]
 fn image_fits(length: usize) -> bool
     ensures { result ≡ image_fits length }
 {
-    match length {
-        4096 | 8192 | 16384 | 32768 | 65536 => true,
-        _ => false,
-    }
+    matches!(length, 4096 | 8192 | 16384 | 32768 | 65536)
 }
 
 // 5: image length not 4,096, 8,192, 16,384, 32,768 or 65,536.
-pub fn image_length(answer: Answer, length: usize) -> Answer
-    ensures { told_of result ≡ after (image_length length) (told_of answer) }
+pub fn image_length(length: usize) -> Result<(), Refusal>
+    ensures { Says (image_length length) result }
 {
-    answer::check(
-        answer,
-        !image_fits(length),
-        Answer::Unfit(Unfit::ImageLength),
-    )
+    answer::refuse(!image_fits(length), Refusal::ImageLength)
 }
 
 // Whether an image's length is suited to M1 and M0.
+#[tactic(auto, unfolding(crate::specs::Banks::suited), using(crate::proofs::Banks::bit_lt, crate::proofs::Banks::one_shifted))]
 fn suits(settings: Settings, length: usize) -> bool
     ensures { result ≡ suited settings length }
 {
@@ -253,17 +253,14 @@ fn suits(settings: Settings, length: usize) -> bool
 }
 
 // 16: image length not suited to M.
-pub fn not_suited(answer: Answer, settings: Settings, length: usize) -> Answer
-    ensures { told_of result ≡ after (not_suited settings length) (told_of answer) }
+pub fn not_suited(settings: Settings, length: usize) -> Result<(), Refusal>
+    ensures { Says (not_suited settings length) result }
 {
-    answer::check(
-        answer,
-        !suits(settings, length),
-        Answer::Unfit(Unfit::NotSuited),
-    )
+    answer::refuse(!suits(settings, length), Refusal::NotSuited)
 }
 
 // How long the font is that text asks for.
+#[tactic(auto, unfolding(crate::specs::Modes::font_size))]
 fn font_size(look: Look) -> usize
     ensures { result ≡ font_size look }
 {
@@ -271,34 +268,23 @@ fn font_size(look: Look) -> usize
 }
 
 // 6: A/G = 0 and font length not the one asked for.
-pub fn font_length(answer: Answer, look: Look, length: usize) -> Answer
-    ensures { told_of result ≡ after (font_length look length) (told_of answer) }
+pub fn font_length(look: Look, length: usize) -> Result<(), Refusal>
+    ensures { Says (font_length look length) result }
 {
-    answer::check(
-        answer,
-        !graphics(look) & !(length == font_size(look)),
-        Answer::Unfit(Unfit::FontLength),
-    )
+    let wrong = !graphics(look) & !(length == font_size(look));
+    answer::refuse(wrong, Refusal::FontLength)
 }
 
 // 7: strip shorter than 192 × W.
-pub fn short_strip(answer: Answer, look: Look, length: usize) -> Answer
-    ensures { told_of result ≡ after (short_strip look length) (told_of answer) }
+pub fn short_strip(look: Look, length: usize) -> Result<(), Refusal>
+    ensures { Says (short_strip look length) result }
 {
-    answer::check(
-        answer,
-        length < strip_length(look),
-        Answer::Unfit(Unfit::ShortStrip),
-    )
+    answer::refuse(length < strip_length(look), Refusal::ShortStrip)
 }
 
 // 8: frame shorter than 49,152.
-pub fn short_frame(answer: Answer, length: usize) -> Answer
-    ensures { told_of result ≡ after (short_frame length) (told_of answer) }
+pub fn short_frame(length: usize) -> Result<(), Refusal>
+    ensures { Says (short_frame length) result }
 {
-    answer::check(
-        answer,
-        length < FRAME_LENGTH,
-        Answer::Unfit(Unfit::ShortFrame),
-    )
+    answer::refuse(length < FRAME_LENGTH, Refusal::ShortFrame)
 }

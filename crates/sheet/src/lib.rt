@@ -7,7 +7,7 @@ ghost use Rattle.grammar.specs.Sheet.{lines};
 ghost use Rattle.grammar.specs.Given.{fields_in, deed_from, tail_from, annotation_from, line_at};
 ghost use Rattle.sheet.specs.Held.{HeldIn};
 
-use answer::{Answer, Spot};
+use answer::{Answer, Refusal};
 use scan::DEED_KEY;
 use settings::Rule;
 
@@ -27,26 +27,26 @@ pub struct Sheet {
 pub fn read(sheet: &[u8]) -> Sheet
     ensures { HeldIn sheet.now result }
 {
-    let found = scan::survey(sheet);
-    let rule = found.rule;
-    let writes = found.writes;
-    if found.whole {
-        return Sheet {
-            answer: Answer::Done(0),
-            pins: found.pins,
-            rule,
-            writes,
-            write_count: found.write_count,
-            annotations: found.annotations,
-        };
-    }
-    Sheet {
-        answer: Answer::At(Spot::BrokenSheet, found.place),
-        pins: 0,
-        rule: Rule::One,
-        writes: [0u16; 64],
-        write_count: 0,
-        annotations: 0,
+    match scan::survey(sheet) {
+        Ok(found) => {
+            let writes = found.writes;
+            Sheet {
+                answer: Ok(0),
+                pins: found.pins,
+                rule: found.rule,
+                writes,
+                write_count: found.write_count,
+                annotations: found.annotations,
+            }
+        }
+        Err(place) => Sheet {
+            answer: Err(Refusal::BrokenSheet(place)),
+            pins: 0,
+            rule: Rule::One,
+            writes: [0; 64],
+            write_count: 0,
+            annotations: 0,
+        },
     }
 }
 
@@ -54,13 +54,12 @@ pub fn read(sheet: &[u8]) -> Sheet
 pub fn deed(sheet: &[u8]) -> &[u8]
     ensures { PartOf sheet.entry result (deed_from sheet.now) (length (fields_in sheet.now).deed) }
 {
-    let found = scan::survey(sheet);
-    if found.whole {
-        let from = DEED_KEY.len();
-        let end = from + found.deed;
-        return &sheet[from..end];
-    }
-    &sheet[..0]
+    let Ok(found) = scan::survey(sheet) else {
+        return &sheet[..0];
+    };
+    let from = DEED_KEY.len();
+    let end = from + found.deed;
+    &sheet[from..end]
 }
 
 // Annotation line n from 0, without its line end; past the last, and of a refused sheet, empty.
@@ -77,10 +76,9 @@ pub fn annotation(sheet: &[u8], n: usize) -> &[u8]
 pub fn tail(sheet: &[u8]) -> &[u8]
     ensures { PartOf sheet.entry result (tail_from sheet.now) (length (lines (fields_in sheet.now).annotations)) }
 {
-    let found = scan::survey(sheet);
-    if found.whole {
-        let from = found.tail;
-        return &sheet[from..];
-    }
-    &sheet[..0]
+    let Ok(found) = scan::survey(sheet) else {
+        return &sheet[..0];
+    };
+    let from = found.tail;
+    &sheet[from..]
 }

@@ -2,8 +2,8 @@
 use Rattle.std.proofs.Common.{ℕ, sym, refl, ◌∙◌, ap₂}
 use base.Logic.{emp, id⊢}
 use Rattle.promises.specs.Fixes.{Operation, Fixes, whole, one_tells, three_tell}
-use Rattle.answer.specs.declared.Answer.{Answer}
-use Rattle.answer.proofs.Answers.{one_answer}
+use Rattle.answer.specs.Told.{Answer}
+use Rattle.answer.proofs.Answers.{one_answer, one_says}
 use Rattle.strip.proofs.not_fitted as not_fitted
 use Rattle.strip.specs.contracts.not_fitted as not_fitted_contract
 use Rattle.strip.proofs.fetch as fetch
@@ -16,7 +16,7 @@ pub not_fitted_fixes : Fixes not_fitted_op
 not_fitted_fixes = record {
   takes_all = λ w κs a g. id⊢ w.𝓤 (emp w.𝓤);
   tells = λ w κs a g z e. one_tells w.𝓤 _;
-  one_outcome = λ κs a z z' ws ws' p q. (one_answer p q, refl);
+  one_outcome = λ κs a z z' ws ws' p q. (one_says _ _ _ p q, refl);
 }
 
 abbrev pub fetch_op : Operation

@@ -1,11 +1,11 @@
 // The strip of fetched bytes, and how many bytes of the image it touched.
 #![tactic(auto)]
 
-ghost use Rattle.std.specs.Prelude.{◌≡◌, ◌+◌, ◌-◌, ◌*◌, ◌%◌, ◌≤◌, true, false, ◌⊎◌, length, replicate, slice_index};
+ghost use Rattle.std.specs.Prelude.{◌≡◌, ℕ, ◌+◌, ◌-◌, ◌*◌, ◌%◌, ◌<◌, ◌≤◌, true, false, ◌⊎◌, length, slice_index};
 ghost use Rattle.promises.specs.Told.{done};
-ghost use Rattle.promises.specs.Order.{first_of, after};
+ghost use Rattle.promises.specs.Order.{first_of};
 ghost use Rattle.promises.specs.Written.{Filled};
-ghost use Rattle.answer.specs.Told.{told_of};
+ghost use Rattle.answer.specs.Told.{told_of, Says};
 ghost use Rattle.settings.specs.Modes.{width};
 ghost use Rattle.settings.specs.Banks.{suited, image_place, missing};
 ghost use Rattle.settings.specs.Refusals.{strip_length};
@@ -14,7 +14,7 @@ ghost use Rattle.strip.specs.Fetch.{fetched_byte, first_missing, not_fitted_at, 
 ghost use Rattle.strip.specs.Steps.{rows_left, Fitted};
 ghost use Rattle.strip.specs.Touched.{touched_bytes, fetch_touched};
 
-use answer::{Answer, Spot};
+use answer::{Answer, Refusal};
 use settings::{Look, Settings};
 
 // The active lines of a frame.
@@ -55,23 +55,22 @@ fn first_missing(settings: Settings, size: usize) -> usize
     if first < total { first } else { total }
 }
 
-// 17: a fetch from a bank not fitted, by the index of the first, as the answer after one more check.
-fn not_fitted_at(answer: Answer, look: Look, first: usize) -> Answer
-    ensures { told_of result ≡ after (not_fitted_at look first) (told_of answer) }
+// 17: a fetch from a bank not fitted, by the index of the first.
+fn not_fitted_at(look: Look, first: usize) -> Result<(), Refusal>
+    ensures { Says (not_fitted_at look first) result }
 {
-    answer::check(
-        answer,
+    answer::refuse(
         first < settings::strip_length(look),
-        Answer::At(Spot::NotFitted, first),
+        Refusal::NotFitted(first),
     )
 }
 
 // The same, by the settings and the length of the image: for both at once. Fetching itself does not call it, since what is called from
 // two crates is compiled as a call, and an answer that a call returns is packed, which makes fetching slower.
-pub fn not_fitted(answer: Answer, settings: Settings, size: usize) -> Answer
-    ensures { told_of result ≡ after (not_fitted settings size) (told_of answer) }
+pub fn not_fitted(settings: Settings, size: usize) -> Result<(), Refusal>
+    ensures { Says (not_fitted settings size) result }
 {
-    not_fitted_at(answer, settings.look, first_missing(settings, size))
+    not_fitted_at(settings.look, first_missing(settings, size))
 }
 
 // The place in an image of an address whose bank is fitted: the lengths are powers of two, and the bits below are kept.
@@ -83,28 +82,25 @@ fn place(settings: Settings, size: usize, address: u16) -> usize
 }
 
 // A run: the 16 bytes of a slice from the place `from` on. A local array overlaps nothing lent, so it is filled by one move.
+// Kept as loops, here and in `put_run`: `copy_from_slice` looks at each run whether the two overlap, and SAM mode 0 takes four times as long.
 fn run_at(bytes: &[u8], from: usize) -> [u8; 16]
     requires { from + 16 ≤ length bytes.now }
-    ensures { Filled (λ j. slice_index bytes.now (from + j)) 0 16 (replicate 16 0) result }
+    ensures { (j : ℕ) → j < 16 → slice_index result j ≡ slice_index bytes.now (from + j) }
 {
     let mut run = [0u8; 16];
-    let mut j = 0;
-    while j < 16 {
-        run[j] = bytes[from + j];
-        j += 1;
+    for (j, byte) in run.iter_mut().enumerate() {
+        *byte = bytes[from + j];
     }
     run
 }
 
-// Puts a run into the strip, from `at` on.
-fn put_run(run: &[u8; 16], strip: &mut [u8], at: usize)
-    requires { at + 16 ≤ length strip.old }
-    ensures { Filled (λ k. slice_index run.now (k - at)) at (at + 16) strip.old strip.new }
+// Puts a run into 16 places of the strip.
+fn put_run(run: &[u8; 16], places: &mut [u8])
+    requires { length places.old ≡ 16 }
+    ensures { (j : ℕ) → j < 16 → slice_index places.new j ≡ slice_index run.now j }
 {
-    let mut j = 0;
-    while j < 16 {
-        strip[at + j] = run[j];
-        j += 1;
+    for (j, byte) in places.iter_mut().enumerate() {
+        *byte = run[j];
     }
 }
 
@@ -115,7 +111,7 @@ fn read_run(image: &[u8], from: usize, strip: &mut [u8], at: usize) -> usize
     ensures filled { Filled (λ k. slice_index image.now (from + (k - at))) at (at + 16) strip.old strip.new }
 {
     let run = run_at(image, from);
-    put_run(&run, strip, at);
+    put_run(&run, &mut strip[at..at + 16]);
     16
 }
 
@@ -134,6 +130,7 @@ fn read_line(image: &[u8], from: usize, strip: &mut [u8], at: usize, wide: usize
 
 // Makes the lines behind the one at `at`, up to `end`, like it. No image is lent: these lines are made from the strip.
 // Each run is that of the first line, and not of the line before, so that no load waits for a store.
+// Kept as a `while`: over `(..).step_by(16)`, which tests twice a run, SAM mode 0 takes a quarter longer, and over the numbers of the runs mode 1 takes twice as long.
 fn repeat_line(strip: &mut [u8], at: usize, wide: usize, end: usize)
     requires { ((wide ≡ 16) ⊎ (wide ≡ 32)) × (at % wide ≡ 0) × (end % wide ≡ 0) × (at + wide ≤ end) × (end ≤ length strip.old) }
     ensures { Filled (λ k. slice_index strip.old (at + k % wide)) (at + wide) end strip.old strip.new }
@@ -141,13 +138,14 @@ fn repeat_line(strip: &mut [u8], at: usize, wide: usize, end: usize)
     let mut to = at + wide;
     while to < end {
         let run = run_at(strip, at + (to & (wide - 1)));
-        put_run(&run, strip, to);
+        put_run(&run, &mut strip[to..to + 16]);
         to += 16;
     }
 }
 
 // Fetches the frame where each line is one stretch: it is read once, and the lines that have its places are made from the strip.
-// Hands back how many bytes of the image it read.
+// Hands back how many bytes of the image it read. Kept as a `while`: over `(0..LINES).step_by(lasts)`, which tests twice a stretch,
+// SAM mode 1 takes a tenth longer.
 fn stretches(settings: Settings, image: &[u8], strip: &mut [u8]) -> usize
     requires { (suited settings (length image.now) ≡ true) × (192 * width settings.look ≤ length strip.old) × Fitted settings (length image.now) × (one_stretch settings ≡ true) }
     ensures value { result ≡ touched_bytes settings }
@@ -180,9 +178,9 @@ fn runs(settings: Settings, image: &[u8], strip: &mut [u8]) -> usize
     let size = image.len();
     let mut counter = counter::start(settings);
     let mut touched = 0;
-    while touched < LINES * 32 {
+    for run in 0..LINES * 2 {
         let from = place(settings, size, counter.address);
-        touched += read_run(image, from, strip, touched);
+        touched += read_run(image, from, strip, run * 16);
         counter = counter.carry(settings);
     }
     touched
@@ -205,13 +203,13 @@ fn length_answer(settings: Settings, image: usize, strip: usize) -> Answer
     ensures { told_of result ≡ first_of (fetch_order settings image strip) (done (strip_length settings.look)) }
 {
     let look = settings.look;
-    let mut answer = Answer::Done(settings::strip_length(look));
-    answer = settings::pins_above(answer, look);
-    answer = settings::fast_rate(answer, settings);
-    answer = settings::image_length(answer, image);
-    answer = settings::not_suited(answer, settings, image);
-    answer = settings::short_strip(answer, look, strip);
-    not_fitted_at(answer, look, first_missing(settings, image))
+    settings::pins_above(look)?;
+    settings::fast_rate(settings)?;
+    settings::image_length(image)?;
+    settings::not_suited(settings, image)?;
+    settings::short_strip(look, strip)?;
+    not_fitted_at(look, first_missing(settings, image))?;
+    Ok(settings::strip_length(look))
 }
 
 // What fetching answers, and how many bytes of the image it touched.
@@ -227,10 +225,14 @@ pub fn fetch(settings: Settings, image: &[u8], strip: &mut [u8]) -> Fetching
     ensures count { result.touched ≡ fetch_touched settings image.now strip.old }
     ensures bytes { strip.new ≡ strip_after settings image.now strip.old }
 {
-    let answer = length_answer(settings, image.len(), strip.len());
-    if answer::number(answer) != 0 {
-        return Fetching { answer, touched: 0 };
+    match length_answer(settings, image.len(), strip.len()) {
+        Ok(length) => Fetching {
+            touched: all_lines(settings, image, strip),
+            answer: Ok(length),
+        },
+        Err(refusal) => Fetching {
+            answer: Err(refusal),
+            touched: 0,
+        },
     }
-    let touched = all_lines(settings, image, strip);
-    Fetching { answer, touched }
 }

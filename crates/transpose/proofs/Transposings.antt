@@ -1,105 +1,99 @@
--- A bank transposed piece by piece: how the loops begin, go on and end.
+-- A bank transposed piece by piece: how the loops go on and end, and how one bank follows another.
 use Prim.Native.Nat.{ℕ, ◌+◌, ◌-◌, ◌*◌, ◌/◌, ◌%◌, ◌<◌, ◌≤◌}
-use mathlib.Core.Path.{◌≡◌, refl, sym, ap, ◌∙◌, subst}
-use mathlib.Core.Logic.{inl, inr, ⊎_elim}
+use mathlib.Core.Path.{◌≡◌, sym, ap, ◌∙◌, subst}
+use mathlib.Core.Logic.{◌⊎◌, inl, inr, ⊎_elim}
 use mathlib.Core.List.{List}
 use native.Mathlib.Omega.{arith}
 use native.Mathlib.Nat.{div-add-mod', mod-lt, div-lt_iff_lt-mul, le_trans, le_of_eq, suc-mul, add-mul, one-mul, mul-le-mul_right, mul-mod_left, lt_of_mul-lt-mul_right}
 use lib.Arith.{digits_lt}
-use lib.ListN.{get_or}
+use lib.ListN.{length, get_or, drop, take}
+use borrow.Rule.Slice.PartMut.{put_mid}
+use Rattle.std.proofs.lemmas.List.{get_or-drop, get_or-take, take_rest}
 use Rattle.promises.specs.Written.{Filled}
-use Rattle.promises.proofs.Fills.{lt_or_ge}
-use Rattle.transpose.specs.Chip.{transposed_in, transposed_byte}
-use Rattle.transpose.specs.Transposing.{Crossed, Transposing}
-use Rattle.transpose.proofs.Places.{whole_times, exchanged, in_bank}
+use Rattle.promises.proofs.Fills.{lt_or_ge, join}
+use Rattle.promises.proofs.Copied.{part}
+use Rattle.transpose.specs.Chip.{transposed, transposed_in, transposed_byte}
+use Rattle.transpose.specs.Transposing.{Crossed}
+use Rattle.transpose.proofs.Places.{whole_times, in_bank, stays}
 
 -- a row ends before the next begins
 pub rows_apart : {r r' : ℕ} (s : ℕ) → r < r' → r * s + s ≤ r' * s
 rows_apart {r} s h = le_trans (le_of_eq (sym (suc-mul r s))) (mul-le-mul_right s h)
 
--- where the byte of a row and column comes from
-pub comes_from : (s base : ℕ) → 0 < s → base % (s * s) ≡ 0 → {r c : ℕ} → r < s → c < s → transposed_in s (base + (r * s + c)) ≡ base + (c * s + r)
-comes_from s base some e {r} {c} hr hc =
-    let b = s * s in
-    let n = whole_times base b e in
-    ap (λ (x : ℕ). transposed_in s (x + (r * s + c))) n ∙ in_bank s some (base / b) (digits_lt hr hc) ∙ ap (λ (x : ℕ). base / b * b + x) (exchanged s some r hc) ∙ ap (λ (x : ℕ). x + (c * s + r)) (sym n)
+-- what the room holds within 64 columns: those before `column` are transposed, and the next 64 in the rows before `row`
+abbrev pub Reached : ℕ → ℕ → ℕ → ℕ → Type 0
+Reached column row r c = (c < column) ⊎ ((c < column + 64) × (r < row))
 
-module _ {g : ℕ → ℕ} {base s : ℕ} where
-  -- nothing is transposed yet
-  pub start : (x : List ℕ) → Transposing g base s 0 0 x x
-  start x = record { long = refl; is = λ r c hr hc. ⊎_elim (λ (l : c < 0). absurd (omega arith)) (λ (l : (c < 0 + 64) × (r < 0)). absurd (omega (arith, l.1))); before = λ p h. refl; after = λ p h. refl }
+abbrev pub Crossing : List ℕ → ℕ → ℕ → ℕ → List ℕ → Type 0
+Crossing lent s column row room = (r c : ℕ) → r < s → c < s → Reached column row r c → get_or room (r * s + c) 0 ≡ get_or lent (c * s + r) 0
 
-  -- one piece more
-  pub piece_more : {h : ℕ → ℕ} {column row : ℕ} {old new new' : List ℕ} → column + 64 ≤ s → row < s → Transposing g base s column row old new
-      → Filled h (base + (row * s + column)) (base + (row * s + column) + 64) new new'
-      → ((k : ℕ) → base + (row * s + column) ≤ k → k < base + (row * s + column) + 64 → h k ≡ g k)
-      → Transposing g base s column (row + 1) old new'
-  piece_more {h} {column} {row} {old} {new} {new'} wide below x f e =
-      record {
-        long = f.long ∙ x.long;
-        is = is;
-        before = λ p l. f.before p (omega arith) ∙ x.before p l;
-        after = λ p l. f.after p (omega (arith, l, rows_apart s below, mul-le-mul_right s below)) ∙ x.after p l;
-      }
+module _ (lent : List ℕ) {s : ℕ} where
+  -- the loop over the rows begins and ends
+  pub begun : (column : ℕ) (room : List ℕ) → Crossed lent s column room → Crossing lent s column 0 room
+  begun column room x r c hr hc d = x r c hr hc (⊎_elim (λ (l : c < column). l) (λ (l : (c < column + 64) × (r < 0)). absurd (omega (arith, l.1))) d)
+
+  pub ended : (column : ℕ) (room : List ℕ) → Crossing lent s column s room → Crossed lent s (column + 64) room
+  ended column room x r c hr hc l = x r c hr hc (inr (l, hr))
+
+  -- one piece more, by what it fills
+  filled_more : (column row at : ℕ) (room new : List ℕ) → column + 64 ≤ s → row < s → at ≡ row * s + column
+      → Filled (λ k. get_or lent (column * s + row + (k - at) * s) 0) at (at + 64) room new
+      → Crossing lent s column row room → Crossing lent s column (row + 1) new
+  filled_more column row at room new wide below here f x = is
     where
-      earlier : {r c : ℕ} → r < s → c < s → base + (r * s + c) < base + (row * s + column) → Crossed column row r c → get_or new' (base + (r * s + c)) 0 ≡ g (base + (r * s + c))
-      earlier {r} {c} hr hc l d = f.before (base + (r * s + c)) l ∙ x.is r c hr hc d
+      earlier : {r c : ℕ} → r < s → c < s → r * s + c < at → Reached column row r c → get_or new (r * s + c) 0 ≡ get_or lent (c * s + r) 0
+      earlier {r} {c} hr hc l d = f.before (r * s + c) l ∙ x r c hr hc d
 
-      row_before : (r c : ℕ) → r < s → c < s → r < row → Crossed column (row + 1) r c → get_or new' (base + (r * s + c)) 0 ≡ g (base + (r * s + c))
+      row_before : (r c : ℕ) → r < s → c < s → r < row → Reached column (row + 1) r c → get_or new (r * s + c) 0 ≡ get_or lent (c * s + r) 0
       row_before r c hr hc l d =
           earlier hr hc (omega (arith, rows_apart s l)) (⊎_elim (λ (q : c < column). inl q) (λ (q : (c < column + 64) × (r < row + 1)). inr (q.0, l)) d)
 
-      row_after : (r c : ℕ) → r < s → c < s → row < r → Crossed column (row + 1) r c → get_or new' (base + (r * s + c)) 0 ≡ g (base + (r * s + c))
+      row_after : (r c : ℕ) → r < s → c < s → row < r → Reached column (row + 1) r c → get_or new (r * s + c) 0 ≡ get_or lent (c * s + r) 0
       row_after r c hr hc l d =
-          f.after (base + (r * s + c)) (omega (arith, rows_apart s l)) ∙ x.is r c hr hc (⊎_elim (λ (q : c < column). inl q) (λ (q : (c < column + 64) × (r < row + 1)). absurd (omega (arith, q.1))) d)
+          f.after (r * s + c) (omega (arith, rows_apart s l)) ∙ x r c hr hc (⊎_elim (λ (q : c < column). inl q) (λ (q : (c < column + 64) × (r < row + 1)). absurd (omega (arith, q.1))) d)
 
-      same_row : (c : ℕ) → c < s → Crossed column (row + 1) row c → get_or new' (base + (row * s + c)) 0 ≡ g (base + (row * s + c))
+      same_row : (c : ℕ) → c < s → Reached column (row + 1) row c → get_or new (row * s + c) 0 ≡ get_or lent (c * s + row) 0
       same_row c hc d = ⊎_elim (λ (l : c < column). earlier below hc (omega arith) (inl l)) (λ (l : column ≤ c). in_piece l d) (lt_or_ge c column)
         where
-          in_piece : column ≤ c → Crossed column (row + 1) row c → get_or new' (base + (row * s + c)) 0 ≡ g (base + (row * s + c))
+          in_piece : column ≤ c → Reached column (row + 1) row c → get_or new (row * s + c) 0 ≡ get_or lent (c * s + row) 0
           in_piece l d =
               let w : c < column + 64 = ⊎_elim (λ (q : c < column). omega arith) (λ (q : (c < column + 64) × (row < row + 1)). q.0) d in
-              f.is (base + (row * s + c)) (omega arith) (omega arith) ∙ e (base + (row * s + c)) (omega arith) (omega arith)
+              let i = row * s + c - at in
+              let c-is : column + i ≡ c = omega arith in
+              f.is (row * s + c) (omega arith) (omega arith)
+              ∙ ap (λ (j : ℕ). get_or lent j 0) (omega (arith, add-mul column i s))
+              ∙ ap (λ (j : ℕ). get_or lent (j * s + row) 0) c-is
 
-      is : (r c : ℕ) → r < s → c < s → Crossed column (row + 1) r c → get_or new' (base + (r * s + c)) 0 ≡ g (base + (r * s + c))
+      is : Crossing lent s column (row + 1) new
       is r c hr hc d =
           ⊎_elim (λ (l : r < row). row_before r c hr hc l d)
           (λ (l : row ≤ r). ⊎_elim (λ (m : row < r). row_after r c hr hc m d)
-          (λ (m : r ≤ row). let q : row ≡ r = omega arith in subst (λ (j : ℕ). Crossed column (row + 1) j c → get_or new' (base + (j * s + c)) 0 ≡ g (base + (j * s + c))) q (same_row c hc) d)
+          (λ (m : r ≤ row). let q : row ≡ r = omega arith in subst (λ (j : ℕ). Reached column (row + 1) j c → get_or new (j * s + c) 0 ≡ get_or lent (c * s + j) 0) q (same_row c hc) d)
           (lt_or_ge row r))
           (lt_or_ge r row)
 
-  -- 64 columns more
-  pub columns_more : {column : ℕ} {old new : List ℕ} → Transposing g base s column s old new → Transposing g base s (column + 64) 0 old new
-  columns_more {column} x =
-      record {
-        long = x.long;
-        is = λ r c hr hc d. x.is r c hr hc (inr (⊎_elim (λ (l : c < column + 64). l) (λ (l : (c < column + 64 + 64) × (r < 0)). absurd (omega (arith, l.1))) d, hr));
-        before = x.before;
-        after = x.after;
-      }
+  -- and by what the piece holds now: `at` is where it lies, and ys its bytes
+  pub piece_more : (column row at m n : ℕ) (room ys : List ℕ) → column + 64 ≤ s → row < s → at ≡ row * s + column → m ≡ 64 → length room ≡ s * s → length ys ≡ 64
+      → n ≡ length lent - (column * s + row) → ((k : ℕ) → k < 64 → get_or ys k 0 ≡ get_or (take n (drop (column * s + row) lent)) (k * s) 0)
+      → Crossing lent s column row room → Crossing lent s column (row + 1) (put_mid at m room ys)
+  piece_more column row at m n room ys wide below here e size long e-n brings =
+      let from = column * s + row in
+      let rest : take n (drop from lent) ≡ drop from lent = rw e-n (take_rest lent from) in
+      let fits : row * s + (column + 63) < s * s = digits_lt {q = row} {m = s} {r = column + 63} {c = s} below (omega arith) in
+      filled_more column row at room (put_mid at m room ys) wide below here
+      (part at m (at + 64) room ys (omega arith) (omega arith) (omega arith)
+      (λ k l.
+      brings k (omega arith)
+      ∙ ap (λ (x : List ℕ). get_or x (k * s) 0) rest
+      ∙ get_or-drop from lent (k * s) 0
+      ∙ ap (λ (i : ℕ). get_or lent (from + i * s) 0) (omega arith)))
 
-  -- all columns: the bank is filled
-  pub bank_filled : 0 < s → {column : ℕ} {old new : List ℕ} → s ≤ column → Transposing g base s column 0 old new → Filled g base (base + s * s) old new
-  bank_filled some {column} {old} {new} all x = record { long = x.long; is = is; before = x.before; after = x.after }
-    where
-      is : (k : ℕ) → base ≤ k → k < base + s * s → get_or new k 0 ≡ g k
-      is k l m =
-          let q = k - base in
-          let below : q < s * s = omega arith in
-          let r : q / s < s = (div-lt_iff_lt-mul some).1 below in
-          let c : q % s < s = mod-lt q some in
-          let e : base + (q / s * s + q % s) ≡ k = ap (λ (x : ℕ). base + x) (div-add-mod' q s) ∙ omega arith in
-          subst (λ (j : ℕ). get_or new j 0 ≡ g j) e (x.is (q / s) (q % s) r c (inl (omega (arith, c, all))))
-
--- what a piece brings is what the bank asks for
-pub piece_right : (s base : ℕ) → 0 < s → base % (s * s) ≡ 0 → (lent : List ℕ) (column row : ℕ) → column + 64 ≤ s → row < s
-    → (k : ℕ) → base + (row * s + column) ≤ k → k < base + (row * s + column) + 64 → get_or lent (base + (column * s + row) + (k - (base + (row * s + column))) * s) 0 ≡ transposed_byte s lent k
-piece_right s base some e lent column row wide below k l m =
-    let i = k - (base + (row * s + column)) in
-    let i_lt : column + i < s = omega arith in
-    let at : base + (row * s + (column + i)) ≡ k = omega arith in
-    ap (λ (x : ℕ). get_or lent x 0) (omega (arith, add-mul column i s) ∙ sym (comes_from s base some e {r = row} {c = column + i} below i_lt) ∙ ap (transposed_in s) at)
+  -- all columns: the bank is transposed
+  pub bank_crossed : 0 < s → (column : ℕ) (room : List ℕ) → s ≤ column → Crossed lent s column room → (k : ℕ) → k < s * s → get_or room k 0 ≡ get_or lent (transposed s k) 0
+  bank_crossed some column room all x k l =
+      let r : k / s < s = (div-lt_iff_lt-mul some).1 l in
+      let c : k % s < s = mod-lt k some in
+      ap (λ (j : ℕ). get_or room j 0) (sym (div-add-mod' k s)) ∙ x (k / s) (k % s) r c (omega arith)
 
 -- ---- bank after bank
 module _ (b base : ℕ) (whole : base % b ≡ 0) where
@@ -118,3 +112,22 @@ module _ (b base : ℕ) (whole : base % b ≡ 0) where
   bank_next =
       let next : base + b ≡ (base / b + 1) * b = omega (arith, base_is, add-mul (base / b) 1 b, one-mul b) in
       ap (λ (x : ℕ). x % b) next ∙ mul-mod_left (base / b + 1) b
+
+-- one bank more: base is where it begins, and ys what it holds now
+pub bank_more : {s : ℕ} (base m m' : ℕ) (lent old room ys : List ℕ) → 0 < s → base % (s * s) ≡ 0 → length lent % (s * s) ≡ 0 → base < length lent → length lent ≤ length room
+    → m ≡ s * s → m' ≡ s * s → length ys ≡ s * s
+    → ((k : ℕ) → k < s * s → get_or ys k 0 ≡ get_or (take m' (drop base lent)) (transposed s k) 0)
+    → Filled (transposed_byte s lent) 0 base old room → Filled (transposed_byte s lent) 0 (base + s * s) old (put_mid base m room ys)
+bank_more {s} base m m' lent old room ys some whole whole' below wide e e' long brings before =
+    let fits = bank_within (s * s) base whole whole' below in
+    let n-is = whole_times base (s * s) whole in
+    join (omega arith) (omega arith) before
+    (part base m (base + s * s) room ys (omega arith) (omega arith) (omega arith)
+    (λ k l.
+    let here : k < s * s = omega arith in
+    brings k here
+    ∙ get_or-take m' (drop base lent) (transposed s k) 0 (omega (arith, stays s some here, e'))
+    ∙ get_or-drop base lent (transposed s k) 0
+    ∙ ap (λ (j : ℕ). get_or lent (j + transposed s k) 0) n-is
+    ∙ ap (λ (j : ℕ). get_or lent j 0) (sym (in_bank s some (base / (s * s)) here))
+    ∙ ap (λ (j : ℕ). get_or lent (transposed_in s (j + k)) 0) (sym n-is)))

@@ -1,87 +1,79 @@
 // Images straight from the chips: an image from what was read off the chips, and back, bank by bank from one buffer into a second.
 #![tactic(auto)]
 
-ghost use Rattle.std.specs.Prelude.{◌≡◌, ◌+◌, ◌-◌, ◌*◌, ◌%◌, ◌<◌, ◌≤◌, length, get_or};
+ghost use Rattle.std.specs.Prelude.{◌≡◌, ℕ, ◌+◌, ◌*◌, ◌%◌, ◌<◌, ◌≤◌, length, get_or};
 ghost use Rattle.promises.specs.Written.{Filled};
 ghost use Rattle.answer.specs.Told.{told_of};
-ghost use Rattle.transpose.specs.Chip.{chip_fits, chip_told, chip_after, transposed_byte};
-ghost use Rattle.transpose.specs.Transposing.{Carries};
+ghost use Rattle.transpose.specs.Chip.{chip_fits, chip_told, chip_after, transposed, transposed_byte};
+ghost use Rattle.transpose.specs.Transposing.{Crossed};
 
-use answer::{Answer, Later};
+use answer::{Answer, Refusal};
 
 // Whether n places are one or two banks of chips with k address pins.
 fn fits(k: usize, n: usize) -> bool
     ensures { result ≡ chip_fits k n }
 {
     match k {
-        6 => (n == 4096) | (n == 8192),
-        7 => (n == 16384) | (n == 32768),
+        6 => matches!(n, 4096 | 8192),
+        7 => matches!(n, 16384 | 32768),
         8 => n == 65536,
         _ => false,
     }
 }
 
 // What is answered, from the number of pins and the lengths of what is lent.
+#[tactic(auto, unfolding(crate::specs::Chip::chip_told))]
 fn chip_answer(k: usize, lent: usize, room: usize) -> Answer
     ensures { told_of result ≡ chip_told k lent room }
 {
-    let mut answer = Answer::Done(0);
-    answer = answer::check(answer, !fits(k, lent), Answer::Later(Later::OtherChip));
-    answer = answer::check(answer, room < lent, Answer::Later(Later::ShortDestination));
-    answer
+    answer::refuse(!fits(k, lent), Refusal::OtherChip)?;
+    answer::refuse(room < lent, Refusal::ShortDestination)?;
+    Ok(0)
 }
 
-// Copies 64 bytes of a column, which lie `side` apart from `from` on, to 64 places in a row from `at` on. A line of the cache has as many.
-fn piece(lent: &[u8], from: usize, side: usize, room: &mut [u8], at: usize)
-    requires { (side ≤ 256) × (from + 63 * side < length lent.now) × (at + 64 ≤ length room.old) }
-    ensures { Filled (λ k. get_or lent.now (from + (k - at) * side) 0) at (at + 64) room.old room.new }
+// Copies 64 bytes, which lie `side` apart, to 64 places in a row. A line of the cache has as many.
+fn piece(lent: &[u8], side: usize, room: &mut [u8])
+    requires { (side ≤ 256) × (63 * side < length lent.now) × (length room.old ≡ 64) }
+    ensures { (k : ℕ) → k < 64 → get_or room.new k 0 ≡ get_or lent.now (k * side) 0 }
 {
-    let mut i = 0;
-    while i < 64 {
-        room[at + i] = lent[from + i * side];
-        i += 1;
+    for (i, byte) in room.iter_mut().enumerate() {
+        *byte = lent[i * side];
     }
 }
 
-// Crosses 64 columns of the bank at `base`: to transpose is to exchange rows and columns, so each row of the room gets 64 bytes.
-fn columns(lent: &[u8], base: usize, side: usize, column: usize, room: &mut [u8])
-    requires side_bound { (side ≤ 256) × (column + 64 ≤ side) }
-    requires side_value { (base % (side * side) ≡ 0) × (base + side * side ≤ length lent.now) × (base + side * side ≤ length room.old) }
-    ensures { Carries (transposed_byte side lent.now) base side column side room.old room.new }
+// Crosses 64 columns of a bank: to transpose is to exchange rows and columns, so each row of the room gets 64 bytes.
+fn columns(lent: &[u8], side: usize, column: usize, room: &mut [u8])
+    requires bounds { (side ≤ 256) × (column + 64 ≤ side) }
+    requires banks { (length lent.now ≡ side * side) × (length room.old ≡ side * side) }
+    requires crossed { Crossed lent.now side column room.old }
+    ensures { Crossed lent.now side (column + 64) room.new }
 {
-    let mut row = 0;
-    while row < side {
-        let from = base + (column * side + row);
-        let at = base + (row * side + column);
-        piece(lent, from, side, room, at);
-        row += 1;
+    for row in 0..side {
+        let at = row * side + column;
+        piece(&lent[column * side + row..], side, &mut room[at..at + 64]);
     }
 }
 
-// Crosses the bank at `base`.
-fn bank(lent: &[u8], base: usize, side: usize, room: &mut [u8])
-    requires side_bound { (side ≤ 256) × (side % 64 ≡ 0) × (0 < side) }
-    requires side_value { (base % (side * side) ≡ 0) × (base + side * side ≤ length lent.now) × (base + side * side ≤ length room.old) }
-    ensures { Filled (transposed_byte side lent.now) base (base + side * side) room.old room.new }
+// Crosses a bank.
+fn bank(lent: &[u8], side: usize, room: &mut [u8])
+    requires bounds { (side ≤ 256) × (side % 64 ≡ 0) × (0 < side) }
+    requires banks { (length lent.now ≡ side * side) × (length room.old ≡ side * side) }
+    ensures { (k : ℕ) → k < side * side → get_or room.new k 0 ≡ get_or lent.now (transposed side k) 0 }
 {
-    let mut column = 0;
-    while column < side {
-        columns(lent, base, side, column, room);
-        column += 64;
+    for column in (0..side).step_by(64) {
+        columns(lent, side, column, room);
     }
 }
 
 // Crosses the banks that are lent.
 fn banks(lent: &[u8], side: usize, room: &mut [u8])
-    requires side_bound { (side ≤ 256) × (side % 64 ≡ 0) × (0 < side) }
-    requires side_len { (length lent.now % (side * side) ≡ 0) × (length lent.now ≤ length room.old) }
+    requires bounds { (side ≤ 256) × (side % 64 ≡ 0) × (0 < side) }
+    requires banks { (length lent.now % (side * side) ≡ 0) × (length lent.now ≤ length room.old) }
     ensures { Filled (transposed_byte side lent.now) 0 (length lent.now) room.old room.new }
 {
     let size = side * side;
-    let mut base = 0;
-    while base < lent.len() {
-        bank(lent, base, side, room);
-        base += size;
+    for base in (0..lent.len()).step_by(size) {
+        bank(&lent[base..base + size], side, &mut room[base..base + size]);
     }
 }
 
@@ -90,13 +82,10 @@ fn transposed(k: usize, lent: &[u8], room: &mut [u8]) -> Answer
     ensures answer { told_of result ≡ chip_told k (length lent.now) (length room.old) }
     ensures bytes { room.new ≡ chip_after k lent.now room.old }
 {
-    let answer = chip_answer(k, lent.len(), room.len());
-    if answer::number(answer) != 0 {
-        return answer;
-    }
+    let done = chip_answer(k, lent.len(), room.len())?;
     let side = 1 << k;
     banks(lent, side, room);
-    answer
+    Ok(done)
 }
 
 // The image whose bytes were read off chips with k address pins, row by row.

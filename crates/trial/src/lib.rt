@@ -1,20 +1,17 @@
 // What the trial programs share: settings and buffers, made and read, and what is printed of a run.
 #![tactic(auto)]
 
-ghost use Rattle.std.specs.Prelude.{◌≡◌, ◌+◌, ◌*◌, ◌%◌, ◌<◌, min, length, ◌==◌, slice_index};
+ghost use Rattle.std.specs.Prelude.{◌≡◌, ◌+◌, ◌*◌, ◌%◌, ◌<◌, min, length, ◌==◌, slice_index, set, Some};
 ghost use Rattle.promises.specs.Choose.{choose};
 ghost use Rattle.promises.specs.Part.{PartOf};
 ghost use Rattle.promises.specs.Written.{written};
 ghost use Rattle.settings.specs.declared.Rule.TheVariants.{One, Two};
+ghost use Rattle.trial.specs.Printed.{hex_pair};
 ghost use Rattle.trial.specs.Buffers.{run, laid, marked, unchanged_from, sum_of};
 
 use answer::Answer;
 use settings::{Look, Rule, Settings};
-
-// The system's numbers of standard output and standard error.
-const STDOUT_FILENO: i32 = 1;
-
-const STDERR_FILENO: i32 = 2;
+use std::fmt;
 
 // == Settings and buffers: made, cut short, and read.
 
@@ -28,6 +25,7 @@ pub fn look_of(pins: usize) -> Look
 }
 
 // A rule by its number: 2, and for every other number 1.
+// Kept as a number: because `settings_of` is public, and its signature and `rule_value` have it so.
 fn rule_of(number: usize) -> Rule
     ensures { result ≡ choose (number == 2) Two One }
 {
@@ -47,33 +45,28 @@ pub fn settings_of(word: usize, pins: usize, rule: usize) -> Settings
     }
 }
 
-// The lesser of two numbers.
-pub fn least(a: usize, b: usize) -> usize
-    ensures { result ≡ min a b }
-{
-    if a < b { a } else { b }
-}
-
 // The first n bytes, or all where there are fewer.
 pub fn cut(s: &[u8], n: usize) -> &[u8]
     ensures { PartOf s.entry result 0 (min n (length s.now)) }
 {
-    let end = least(n, s.len());
-    &s[..end]
-}
-
-// A byte as a number.
-fn byte_number(b: u8) -> usize
-    ensures { result ≡ b }
-{
-    b as usize
+    &s[..n.min(s.len())]
 }
 
 // The byte at a place, 0 past the end.
+// Kept as a test and an index: because the edit past_the_numbers shows here that no read past the end is proved.
 pub fn byte_at(s: &[u8], i: usize) -> usize
     ensures { result ≡ slice_index s.now i }
 {
-    if i < s.len() { byte_number(s[i]) } else { 0 }
+    if i < s.len() { usize::from(s[i]) } else { 0 }
+}
+
+// Puts a byte at a place, if there is one.
+pub fn put(s: &mut [u8], place: usize, byte: u8)
+    ensures { s.new ≡ set s.old place byte }
+{
+    if place < s.len() {
+        s[place] = byte;
+    }
 }
 
 // The number of a place's run, where runs have `per` places; 0 everywhere where `per` is 0.
@@ -90,18 +83,17 @@ fn run(per: usize, k: usize) -> usize
 fn laid(first: u8, times: u8, per: usize, k: usize) -> u8
     ensures { result ≡ laid first times per k }
 {
-    let moved = first as usize + times as usize * (k % 256);
+    let moved = usize::from(first) + usize::from(times) * (k % 256);
     ((moved + run(per, k) % 256) % 256) as u8
 }
 
 // Lays a byte at every place: one that `times` moves on from place to place, and each run of `per` places by one more.
+#[tactic(auto, using(promises::proofs::Fills::none, promises::proofs::Fills::more, promises::proofs::Fills::upto, promises::proofs::Fills::filled_written))]
 pub fn lay(s: &mut [u8], first: u8, times: u8, per: usize)
     ensures { s.new ≡ written (laid first times per) (length s.old) s.old }
 {
-    let mut i: usize = 0;
-    while i < s.len() {
-        s[i] = laid(first, times, per, i);
-        i += 1;
+    for (i, byte) in s.iter_mut().enumerate() {
+        *byte = laid(first, times, per, i);
     }
 }
 
@@ -124,14 +116,13 @@ fn unchanged_past(from: usize, b: u8, i: usize) -> usize
 }
 
 // The place from which on a buffer is as it was marked: 0 where it was kept whole.
+#[tactic(auto, using(crate::proofs::Buffers::unchanged_none, crate::proofs::Buffers::unchanged_more))]
 pub fn unchanged_from(s: &[u8]) -> usize
     ensures { result ≡ unchanged_from s.now }
 {
-    let mut from: usize = 0;
-    let mut i: usize = 0;
-    while i < s.len() {
-        from = unchanged_past(from, s[i], i);
-        i += 1;
+    let mut from = 0;
+    for (i, &byte) in s.iter().enumerate() {
+        from = unchanged_past(from, byte, i);
     }
     from
 }
@@ -141,152 +132,105 @@ fn next_sum(n: usize, b: u8) -> usize
     requires { n < 65521 }
     ensures { result ≡ (n * 31 + b) % 65521 }
 {
-    (n * 31 + b as usize) % 65521
+    (n * 31 + usize::from(b)) % 65521
 }
 
 // A sum that each byte and its place counts in.
+#[tactic(auto, using(crate::proofs::Buffers::sum_none, crate::proofs::Buffers::sum_more))]
 pub fn sum(s: &[u8]) -> usize
     ensures { result ≡ sum_of s.now }
 {
-    let mut n: usize = 0;
-    let mut i: usize = 0;
-    while i < s.len() {
-        n = next_sum(n, s[i]);
-        i += 1;
+    let mut n = 0;
+    for &byte in s {
+        n = next_sum(n, byte);
     }
     n
 }
 
-// == What is printed: bytes, forms with numbers in them, answers. Of what is printed no contract can speak; each of these answers
-// nothing, and is lent nothing that it could write.
+// == What is printed: answers, what a line is under, and bytes. A program prints them by its formats.
 
-// Says so on standard error where something was not written whole.
-fn look_at(written: bool) {
-    if !written {
-        io::write_all(STDERR_FILENO, b"the output is not whole\n");
+// An answer's number and place.
+#[derive(Clone, Copy)]
+pub struct NumberAndPlace(pub Answer);
+
+impl fmt::Display for NumberAndPlace {
+    fn fmt<W: fmt::Write>(&self, f: &mut fmt::Formatter<W>) -> fmt::Result {
+        let number = answer::number(self.0);
+        let place = answer::place(self.0);
+        write!(f, "number {number} place {place}")
     }
 }
 
-// Prints bytes as they are.
-pub fn say(words: &[u8])
-    ensures { result ≡ tt {0} }
-{
-    look_at(io::write_all(STDOUT_FILENO, words));
-}
+// An answer's number, place and value.
+#[derive(Clone, Copy)]
+pub struct Answered(pub Answer);
 
-// The capital hex digit of a number.
-fn digit(n: u8) -> u8
-    requires { n < 16 }
-{
-    if n < 10 { 48 + n } else { 55 + n }
-}
-
-// Prints a byte as two hex digits.
-fn hex_byte(b: u8) {
-    say(&[digit(b / 16), digit(b % 16)]);
-}
-
-// Prints a number as its sign asks: `#` in decimal, `%` as two hex digits, else as four.
-fn number_as(sign: u8, n: usize) {
-    if sign == b'#' {
-        look_at(io::print_decimal(STDOUT_FILENO, n as u64));
-        return;
+impl fmt::Display for Answered {
+    fn fmt<W: fmt::Write>(&self, f: &mut fmt::Formatter<W>) -> fmt::Result {
+        let value = answer::value(self.0);
+        write!(f, "{} value {value}", NumberAndPlace(self.0))
     }
-    if sign == b'$' {
-        hex_byte((n / 256 % 256) as u8);
-    }
-    hex_byte((n % 256) as u8);
 }
 
-// The number at a place, 0 past the end.
-fn nth(numbers: &[usize], k: usize) -> usize {
-    if k < numbers.len() { numbers[k] } else { 0 }
-}
+// The number of the figure that a line is, if it is one.
+#[derive(Clone, Copy)]
+pub struct Figure(pub Option<u8>);
 
-// Prints a form, in which each `#`, `%` and `$` stands for the next of the numbers.
-pub fn form(words: &[u8], numbers: &[usize])
-    ensures { result ≡ tt {0} }
-{
-    let mut k: usize = 0;
-    let mut i: usize = 0;
-    while i < words.len() {
-        let b = words[i];
-        if (b == b'#') | (b == b'%') | (b == b'$') {
-            number_as(b, nth(numbers, k));
-            k = std::num::wrapping_add_usize(k, 1);
-        } else {
-            say(&[b]);
+impl fmt::Display for Figure {
+    fn fmt<W: fmt::Write>(&self, f: &mut fmt::Formatter<W>) -> fmt::Result {
+        match self.0 {
+            Some(n) => write!(f, "P{n} "),
+            None => Ok(()),
         }
-        i += 1;
     }
 }
 
-// Prints a form with one number.
-pub fn one(words: &[u8], n: usize)
-    ensures { result ≡ tt {0} }
-{
-    form(words, &[n]);
-}
+// The rule that a line is under, by its number as `settings_of` takes it, if it is rule 2.
+#[derive(Clone, Copy)]
+pub struct Under(pub usize);
 
-// Prints the number of the figure that a line is, if it is one.
-pub fn figure_name(n: usize)
-    ensures { result ≡ tt {0} }
-{
-    if 0 < n {
-        one(b"P# ", n);
+impl fmt::Display for Under {
+    fn fmt<W: fmt::Write>(&self, f: &mut fmt::Formatter<W>) -> fmt::Result {
+        if self.0 == 2 {
+            write!(f, "rule 2 ")
+        } else {
+            Ok(())
+        }
     }
 }
 
-// Prints the rule that a line is under, if it is rule 2.
-pub fn rule_name(n: usize)
-    ensures { result ≡ tt {0} }
-{
-    if n == 2 {
-        say(b"rule 2 ");
+// A byte by its hex digits.
+#[derive(Clone, Copy)]
+struct Hex(u8);
+
+impl fmt::Display for Hex {
+    ghost output = { λ h. Some (hex_pair h.0) };
+
+    fn fmt<W: fmt::Write>(&self, f: &mut fmt::Formatter<W>) -> fmt::Result {
+        let byte = self.0;
+        write!(f, "{byte:02X}")
     }
-}
-
-// Prints an answer's number and place.
-pub fn number_and_place(a: Answer)
-    ensures { result ≡ tt {0} }
-{
-    form(
-        b": number # place #",
-        &[answer::number(a) as usize, answer::place(a)],
-    );
-}
-
-// Prints an answer's number, place and value.
-pub fn answered(a: Answer)
-    ensures { result ≡ tt {0} }
-{
-    number_and_place(a);
-    one(b" value #", answer::value(a));
 }
 
 // Prints a byte so that it can be read: a line end as \n, other control bytes and those above 126 by their hex digits.
-fn escape(b: u8) {
-    if b == 10 {
-        say(b"\\n");
-        return;
+fn escape<W: fmt::Write>(f: &mut fmt::Formatter<W>, byte: u8) -> fmt::Result {
+    match byte {
+        b'\n' => write!(f, "\\n"),
+        32..=126 => write!(f, "{}", char::from(byte)),
+        _ => write!(f, "\\x{}", Hex(byte)),
     }
-    if (b < 32) | (126 < b) {
-        say(b"\\x");
-        hex_byte(b);
-        return;
-    }
-    say(&[b]);
 }
 
-// Prints bytes in brackets, each so that it can be read.
-pub fn quoted(s: &[u8])
-    ensures { result ≡ tt {0} }
-{
-    say(b"[");
-    let mut i: usize = 0;
-    while i < s.len() {
-        escape(s[i]);
-        i += 1;
+// Bytes in brackets, each so that it can be read.
+#[derive(Clone, Copy)]
+pub struct Quoted<'a>(pub &'a [u8]);
+
+impl fmt::Display for Quoted<'_> {
+    fn fmt<W: fmt::Write>(&self, f: &mut fmt::Formatter<W>) -> fmt::Result {
+        write!(f, "[")?;
+        for &byte in self.0 {
+            escape(f, byte)?;
+        }
+        write!(f, "]")
     }
-    say(b"]");
 }

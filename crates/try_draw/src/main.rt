@@ -2,292 +2,226 @@
 // Prints a line for each.
 #![tactic(auto)]
 
-ghost use Rattle.std.specs.Prelude.{◌<◌};
-
-use settings::Look;
-use trial::{
-    answered, byte_at, cut, figure_name, form, lay, least, look_of, mark, one, say, sum,
-    unchanged_from,
-};
+use std::io;
+use std::ops::Range;
+use trial::{Answered, Figure, cut, lay, look_of, mark, sum, unchanged_from};
 
 // == Dots: figures P10 to P12, the text figures, and corners of the modes.
 
-// Prints eight pixels.
-fn eight(frame: &[u8], from: usize)
-    requires { from < 65536 }
-{
-    form(
-        b" # # # # # # # #",
-        &[
-            byte_at(frame, from),
-            byte_at(frame, from + 1),
-            byte_at(frame, from + 2),
-            byte_at(frame, from + 3),
-            byte_at(frame, from + 4),
-            byte_at(frame, from + 5),
-            byte_at(frame, from + 6),
-            byte_at(frame, from + 7),
-        ],
-    );
-}
+// A figure, the pins, the byte that the strip has throughout, and the line whose first dots are printed.
+type Dots = (Option<u8>, usize, u8, u8);
 
-// Prints the dots of a line's first byte.
-fn first_dots(look: Look, frame: &[u8], line: usize)
-    requires { line < 192 }
-{
-    eight(frame, line * 256);
-    if settings::width(look) == 16 {
-        eight(frame, line * 256 + 8);
-    }
-    say(b"\n");
-}
-
-// Draws a strip that has one byte throughout, and prints the answer and a line's first dots.
-fn drawn(look: Look, byte: u8, line: usize, font: &[u8])
-    requires { line < 192 }
-{
-    let mut strip = [0u8; 6144];
-    let mut frame = [0u8; 49152];
-    lay(&mut strip, byte, 0, 0);
-    let a = frame::draw(look, font, &strip, &mut frame);
-    answered(a);
-    say(b", dots");
-    first_dots(look, &frame, line);
-}
-
-// A figure by its number, or 0.
-fn dots_of(n: usize, pins: usize, byte: usize, line: usize, font: &[u8])
-    requires { line < 192 }
-{
-    figure_name(n);
-    form(b"pins % byte % line #", &[pins, byte, line]);
-    drawn(look_of(pins), (byte % 256) as u8, line, font);
-}
+// The figures of graphics.
+const GRAPHICS: [Dots; 2] = [(Some(10), 0x20, 0x1B, 0), (Some(11), 0x2F, 0xA5, 0)];
 
 // Letters: inverted by DD6, exchanged by GM1, the two colours, other rows; with GM0 = 1 the same from 32 on.
-fn letters(font: &[u8]) {
-    dots_of(0, 0x00, 0x41, 0, font);
-    dots_of(0, 0x00, 0x01, 0, font);
-    dots_of(0, 0x01, 0x41, 0, font);
-    dots_of(0, 0x04, 0x41, 0, font);
-    dots_of(0, 0x00, 0x41, 12, font);
-    dots_of(0, 0x00, 0x41, 11, font);
-    dots_of(0, 0x02, 0x61, 0, font);
-    dots_of(0, 0x02, 0x41, 0, font);
-    dots_of(0, 0x02, 0x21, 0, font);
-    dots_of(0, 0x00, 0x21, 0, font);
-    dots_of(0, 0x06, 0x61, 0, font);
-}
+const LETTERS: [Dots; 11] = [
+    (None, 0x00, 0x41, 0),
+    (None, 0x00, 0x01, 0),
+    (None, 0x01, 0x41, 0),
+    (None, 0x04, 0x41, 0),
+    (None, 0x00, 0x41, 12),
+    (None, 0x00, 0x41, 11),
+    (None, 0x02, 0x61, 0),
+    (None, 0x02, 0x41, 0),
+    (None, 0x02, 0x21, 0),
+    (None, 0x00, 0x21, 0),
+    (None, 0x06, 0x61, 0),
+];
 
 // Lower case: dark on colour, exchanged by GM1, in orange; its first and last byte, and the byte after.
-fn lower_case(font: &[u8]) {
-    dots_of(0, 0x02, 0x01, 0, font);
-    dots_of(0, 0x06, 0x01, 0, font);
-    dots_of(0, 0x03, 0x01, 0, font);
-    dots_of(0, 0x02, 0x00, 0, font);
-    dots_of(0, 0x02, 0x1F, 0, font);
-    dots_of(0, 0x02, 0x20, 0, font);
-}
+const LOWER_CASE: [Dots; 6] = [
+    (None, 0x02, 0x01, 0),
+    (None, 0x06, 0x01, 0),
+    (None, 0x03, 0x01, 0),
+    (None, 0x02, 0x00, 0),
+    (None, 0x02, 0x1F, 0),
+    (None, 0x02, 0x20, 0),
+];
 
 // Semigraphics 4: the unlit part is black in every colour, and GM does not matter.
-fn blocks(font: &[u8]) {
-    dots_of(12, 0x00, 0xB9, 5, font);
-    dots_of(12, 0x00, 0xB9, 6, font);
-    dots_of(0, 0x00, 0xB9, 11, font);
-    dots_of(0, 0x00, 0xB9, 12, font);
-    dots_of(0, 0x04, 0xB9, 5, font);
-    dots_of(0, 0x0F, 0xB9, 5, font);
-    dots_of(0, 0x00, 0x80, 0, font);
-    dots_of(0, 0x00, 0x90, 0, font);
-    dots_of(0, 0x01, 0xFF, 0, font);
-}
+const BLOCKS: [Dots; 9] = [
+    (Some(12), 0x00, 0xB9, 5),
+    (Some(12), 0x00, 0xB9, 6),
+    (None, 0x00, 0xB9, 11),
+    (None, 0x00, 0xB9, 12),
+    (None, 0x04, 0xB9, 5),
+    (None, 0x0F, 0xB9, 5),
+    (None, 0x00, 0x80, 0),
+    (None, 0x00, 0x90, 0),
+    (None, 0x01, 0xFF, 0),
+];
 
 // External text: its first and last byte, on each side of DD6, GM0 without effect, exchanged by GM1, in orange; and a byte of 128.
-fn external(font: &[u8]) {
-    dots_of(0, 0x10, 0x01, 0, font);
-    dots_of(0, 0x10, 0x00, 0, font);
-    dots_of(0, 0x10, 0x3F, 11, font);
-    dots_of(0, 0x10, 0x40, 12, font);
-    dots_of(0, 0x10, 0x41, 0, font);
-    dots_of(0, 0x10, 0x7F, 191, font);
-    dots_of(0, 0x12, 0x01, 0, font);
-    dots_of(0, 0x12, 0x61, 0, font);
-    dots_of(0, 0x14, 0x41, 0, font);
-    dots_of(0, 0x11, 0x41, 0, font);
-    dots_of(0, 0x10, 0x80, 0, font);
+const EXTERNAL: [Dots; 11] = [
+    (None, 0x10, 0x01, 0),
+    (None, 0x10, 0x00, 0),
+    (None, 0x10, 0x3F, 11),
+    (None, 0x10, 0x40, 12),
+    (None, 0x10, 0x41, 0),
+    (None, 0x10, 0x7F, 191),
+    (None, 0x12, 0x01, 0),
+    (None, 0x12, 0x61, 0),
+    (None, 0x14, 0x41, 0),
+    (None, 0x11, 0x41, 0),
+    (None, 0x10, 0x80, 0),
+];
+
+// Draws a strip that has one byte throughout, and prints the answer and the dots of a line's first byte.
+fn dots(rt: &impl Print, row: Dots, font: &[u8]) -> io::Result<()> {
+    let (figure, pins, byte, line) = row;
+    let look = look_of(pins);
+    let mut frame = [0u8; 49152];
+    let told = Answered(frame::draw(look, font, &[byte; 6144], &mut frame));
+    print!(rt; "{}pins {pins:02X} byte {byte:02X}", Figure(figure))?;
+    print!(rt; " line {line}: {told}, dots")?;
+    let wide = if settings::width(look) == 16 { 16 } else { 8 };
+    for pixel in frame.iter().skip(usize::from(line) * 256).take(wide) {
+        print!(rt; " {pixel}")?;
+    }
+    println!(rt; "")
 }
 
-// The figures of graphics, then blocks, letters and lower case.
-fn dots(font: &[u8]) {
-    dots_of(10, 0x20, 0x1B, 0, font);
-    dots_of(11, 0x2F, 0xA5, 0, font);
-    blocks(font);
-    letters(font);
-    lower_case(font);
+// The dots of each of some rows.
+fn dots_each(rt: &impl Print, rows: &[Dots], font: &[u8]) -> io::Result<()> {
+    for &row in rows {
+        dots(rt, row, font)?;
+    }
+    Ok(())
 }
 
 // == Every look: the last line's first dots of one byte, and the sum of a whole frame.
 
 // Draws a frame, and prints its sum.
-fn frame_sum(pins: usize, font: &[u8], strip: &[u8]) {
+fn frame_sum(rt: &impl Print, pins: usize, font: &[u8], strip: &[u8]) -> io::Result<()> {
     let mut frame = [0u8; 49152];
-    let a = frame::draw(look_of(pins), font, strip, &mut frame);
-    one(b"frame pins %", pins);
-    answered(a);
-    one(b", sum #\n", sum(&frame));
+    let told = Answered(frame::draw(look_of(pins), font, strip, &mut frame));
+    println!(rt; "frame pins {pins:02X}: {told}, sum {}", sum(&frame))
 }
 
-// One look.
-fn look(pins: usize, byte: usize, font: &[u8], strip: &[u8]) {
-    dots_of(0, pins, byte, 191, font);
-    frame_sum(pins, font, strip);
-}
-
-// Eight looks: four modes, or half of the text looks, with either CSS; their borders are the values.
-fn looks(from: usize, byte: usize, font: &[u8], strip: &[u8])
-    requires { from < 64 }
-{
-    look(from, byte, font, strip);
-    look(from + 1, byte, font, strip);
-    look(from + 2, byte, font, strip);
-    look(from + 3, byte, font, strip);
-    look(from + 4, byte, font, strip);
-    look(from + 5, byte, font, strip);
-    look(from + 6, byte, font, strip);
-    look(from + 7, byte, font, strip);
+// Some looks: modes, or text looks, with either CSS; their borders are the values.
+fn looks(
+    rt: &impl Print,
+    pins: Range<usize>,
+    byte: u8,
+    font: &[u8],
+    strip: &[u8],
+) -> io::Result<()> {
+    for look in pins {
+        dots(rt, (None, look, byte, 191), font)?;
+        frame_sum(rt, look, font, strip)?;
+    }
+    Ok(())
 }
 
 // == All 128 letters under each of the text looks, by the sums of whole frames.
 
 // The sum of a frame of sixteen letters, one below the other, each on all its twelve rows.
-fn letters_sum(look: Look, first: u8, font: &[u8]) -> usize {
+fn letters_sum(pins: usize, first: u8, font: &[u8]) -> usize {
     let mut strip = [0u8; 6144];
     let mut frame = [0u8; 49152];
     lay(&mut strip, first, 0, 384);
-    frame::draw(look, font, &strip, &mut frame);
+    let _ = frame::draw(look_of(pins), font, &strip, &mut frame);
     sum(&frame)
 }
 
 // All letters under one look, a sum for each sixteen.
-fn all_letters(pins: usize, font: &[u8]) {
-    let look = look_of(pins);
-    form(
-        b"letters pins %, sums # # # # # # # #\n",
-        &[
-            pins,
-            letters_sum(look, 0x00, font),
-            letters_sum(look, 0x10, font),
-            letters_sum(look, 0x20, font),
-            letters_sum(look, 0x30, font),
-            letters_sum(look, 0x40, font),
-            letters_sum(look, 0x50, font),
-            letters_sum(look, 0x60, font),
-            letters_sum(look, 0x70, font),
-        ],
-    );
+fn all_letters(rt: &impl Print, pins: usize, font: &[u8]) -> io::Result<()> {
+    print!(rt; "letters pins {pins:02X}, sums")?;
+    for first in [0x00, 0x10, 0x20, 0x30, 0x40, 0x50, 0x60, 0x70] {
+        print!(rt; " {}", letters_sum(pins, first, font))?;
+    }
+    println!(rt; "")
 }
 
-// All letters under eight looks.
-fn letters_looks(from: usize, font: &[u8])
-    requires { from < 64 }
-{
-    all_letters(from, font);
-    all_letters(from + 1, font);
-    all_letters(from + 2, font);
-    all_letters(from + 3, font);
-    all_letters(from + 4, font);
-    all_letters(from + 5, font);
-    all_letters(from + 6, font);
-    all_letters(from + 7, font);
+// All letters under some looks.
+fn letters_looks(rt: &impl Print, pins: Range<usize>, font: &[u8]) -> io::Result<()> {
+    for look in pins {
+        all_letters(rt, look, font)?;
+    }
+    Ok(())
 }
 
 // == Refusals and their order, with the frame held against what it was before.
 
-// The first n bytes to be written, or all where there are fewer.
-fn room(s: &mut [u8], n: usize) -> &mut [u8] {
-    let end = least(n, s.len());
-    &mut s[0..end]
-}
-
-// Draws on a marked frame, of buffers as long as told.
-fn draw(pins: usize, font: usize, strip: usize, frame: usize, patterns: &[u8], bytes: &[u8]) {
-    let mut buffer = [0u8; 50000];
-    mark(&mut buffer);
-    let a = frame::draw(
-        look_of(pins),
-        cut(patterns, font),
-        cut(bytes, strip),
-        room(&mut buffer, frame),
-    );
-    form(
-        b"draw pins % font # strip # frame #",
-        &[pins, font, strip, frame],
-    );
-    answered(a);
-    one(b", frame kept from #\n", unchanged_from(&buffer));
-}
+// The pins, and how many bytes there are of the font, the strip and the frame.
+type Row = (usize, usize, usize, usize);
 
 // The refusals of internal text and graphics in their order; the font's length is not asked for in graphics.
-fn refusals(font: &[u8], bytes: &[u8]) {
-    draw(0x40, 0, 0, 0, font, bytes);
-    draw(0x00, 1151, 0, 0, font, bytes);
-    draw(0x00, 1153, 8192, 50000, font, bytes);
-    draw(0x00, 1152, 6143, 0, font, bytes);
-    draw(0x20, 1151, 3071, 0, font, bytes);
-    draw(0x00, 1152, 6144, 49151, font, bytes);
-    draw(0x20, 0, 3072, 49151, font, bytes);
-    draw(0x00, 1152, 6144, 49152, font, bytes);
-    draw(0x20, 0, 3072, 49152, font, bytes);
-    draw(0x30, 1151, 8192, 50000, font, bytes);
-    draw(0x00, 3072, 8192, 50000, font, bytes);
-}
+const REFUSALS: [Row; 11] = [
+    (0x40, 0, 0, 0),
+    (0x00, 1151, 0, 0),
+    (0x00, 1153, 8192, 50000),
+    (0x00, 1152, 6143, 0),
+    (0x20, 1151, 3071, 0),
+    (0x00, 1152, 6144, 49151),
+    (0x20, 0, 3072, 49151),
+    (0x00, 1152, 6144, 49152),
+    (0x20, 0, 3072, 49152),
+    (0x30, 1151, 8192, 50000),
+    (0x00, 3072, 8192, 50000),
+];
 
 // Those of external text, of a strip that has bytes of 128 or more.
-fn external_refusals(font: &[u8], bytes: &[u8]) {
-    draw(0x50, 0, 0, 0, font, bytes);
-    draw(0x10, 0, 0, 0, font, bytes);
-    draw(0x10, 1152, 8192, 50000, font, bytes);
-    draw(0x10, 3071, 8192, 50000, font, bytes);
-    draw(0x10, 3073, 8192, 50000, font, bytes);
-    draw(0x10, 3072, 6143, 0, font, bytes);
-    draw(0x10, 3072, 6144, 49151, font, bytes);
-    draw(0x10, 3072, 6144, 49152, font, bytes);
-    draw(0x1F, 3072, 8192, 50000, font, bytes);
+const EXTERNAL_REFUSALS: [Row; 9] = [
+    (0x50, 0, 0, 0),
+    (0x10, 0, 0, 0),
+    (0x10, 1152, 8192, 50000),
+    (0x10, 3071, 8192, 50000),
+    (0x10, 3073, 8192, 50000),
+    (0x10, 3072, 6143, 0),
+    (0x10, 3072, 6144, 49151),
+    (0x10, 3072, 6144, 49152),
+    (0x1F, 3072, 8192, 50000),
+];
+
+// Draws on marked frames, of buffers as long as told.
+fn draw_each(rt: &impl Print, rows: &[Row], patterns: &[u8], bytes: &[u8]) -> io::Result<()> {
+    for &(pins, font, strip, frame) in rows {
+        let mut buffer = [0u8; 50000];
+        mark(&mut buffer);
+        let room = frame.min(buffer.len());
+        let told = Answered(frame::draw(
+            look_of(pins),
+            cut(patterns, font),
+            cut(bytes, strip),
+            &mut buffer[..room],
+        ));
+        print!(rt; "draw pins {pins:02X} font {font} strip {strip} frame {frame}")?;
+        println!(rt; ": {told}, frame kept from {}", unchanged_from(&buffer))?;
+    }
+    Ok(())
 }
 
 // Graphics and internal text, by its font.
-fn own_draws(font: &[u8], strip: &[u8]) {
-    dots(font);
-    looks(0x20, 0x1B, font, strip);
-    looks(0x28, 0x1B, font, strip);
-    looks(0x00, 0x41, font, strip);
-    looks(0x08, 0x41, font, strip);
-    letters_looks(0x00, font);
-    letters_looks(0x08, font);
+fn own_draws(rt: &impl Print, font: &[u8], strip: &[u8]) -> io::Result<()> {
+    dots_each(rt, &GRAPHICS, font)?;
+    dots_each(rt, &BLOCKS, font)?;
+    dots_each(rt, &LETTERS, font)?;
+    dots_each(rt, &LOWER_CASE, font)?;
+    looks(rt, 0x20..0x30, 0x1B, font, strip)?;
+    looks(rt, 0x00..0x10, 0x41, font, strip)?;
+    letters_looks(rt, 0x00..0x10, font)
 }
 
 // External text, by the external character ROM, from a strip of letters.
-fn external_draws(rom: &[u8], strip: &[u8]) {
-    external(rom);
-    looks(0x10, 0x41, rom, strip);
-    looks(0x18, 0x41, rom, strip);
-    letters_looks(0x10, rom);
-    letters_looks(0x18, rom);
+fn external_draws(rt: &impl Print, rom: &[u8], strip: &[u8]) -> io::Result<()> {
+    dots_each(rt, &EXTERNAL, rom)?;
+    looks(rt, 0x10..0x20, 0x41, rom, strip)?;
+    letters_looks(rt, 0x10..0x20, rom)
 }
 
 // All of them; the font and the strips have bytes too many, to be refused or passed over.
-fn draws(font: &[u8], strip: &[u8], letters: &[u8]) {
-    let own = cut(font, 1152);
-    let rom = cut(font, 3072);
-    own_draws(own, strip);
-    external_draws(rom, letters);
-    refusals(font, strip);
-    external_refusals(font, strip);
+fn draws(rt: &impl Print, font: &[u8], strip: &[u8], letters: &[u8]) -> io::Result<()> {
+    own_draws(rt, cut(font, 1152), strip)?;
+    external_draws(rt, cut(font, 3072), letters)?;
+    draw_each(rt, &REFUSALS, font, strip)?;
+    draw_each(rt, &EXTERNAL_REFUSALS, font, strip)
 }
 
 // A font that is marked, by one more from each 64th pattern on, so that no two patterns are alike, with a row of its own for pattern 1; a
 // strip of varied bytes, and one whose first 6,144 bytes are letters.
-fn main() {
+fn main(rt: HostRuntime) -> io::Result<()> {
     let mut font = [0u8; 3073];
     let mut strip = [0u8; 8192];
     let mut letters = [0u8; 8192];
@@ -295,5 +229,5 @@ fn main() {
     font[12] = 0x18;
     lay(&mut strip, 0, 1, 61);
     lay(&mut letters, 0, 0, 61);
-    draws(&font, &strip, &letters);
+    draws(&rt, &font, &strip, &letters)
 }

@@ -1,24 +1,15 @@
--- `canvas::first_outside` meets its contract: the search goes on past a placement that lies inside.
-use Rattle.std.proofs.Common.{ℕ, ◌-◌, get_or, ap, ◌∙◌, arith}
-use Rattle.promises.specs.Choose.{choose}
+-- `canvas::first_outside` meets its contract: the position found is the first place.
+use Rattle.std.proofs.Common.{◌≡◌, ap, ◌∙◌, length, rules, tests}
+use Rattle.std.specs.List.{position}
+use Rattle.std.specs.Option.{unwrap_or}
+use Rattle.std.proofs.lemmas.Iterator.{YieldsList-from_slice}
+use Rattle.std.proofs.lemmas.Iterator.Search.{position_from_yields_List}
 use Rattle.plans.specs.Canvas.{outside}
-use Rattle.canvas.proofs.Entries.{none}
-use Rattle.canvas.proofs.Firsts.{found_end, found_step, found_all}
+use Rattle.canvas.proofs.Firsts.{found_first}
 use Rattle.canvas.proofs.first_outside.Goals as goal
 
-pub loop-i-init : goal.loop-i-init
-loop-i-init c = record { in_list = omega arith; is_first = found_end c.args.placements.now }
-
--- one place nearer the list's beginning
-pub loop-i-preserved : goal.loop-i-preserved
-loop-i-preserved c =
-    let ps = c.args.placements.now in
-    let i = c.loop-i.i in
-    record {
-      in_list = omega arith;
-      is_first = c.this_or_later-first.ensures ∙ ap (λ (k : ℕ). choose (outside (get_or ps (i - 1) none)) (i - 1) k) c.loop-i.invariant.is_first
-          ∙ found_step ps i none c.loop-i-test.true c.loop-i.invariant.in_list;
-    }
-
 pub returns : goal.returns
-returns c = c.loop-i.invariant.is_first ∙ found_all c.args.placements.now c.loop-i.i c.loop-i-test.false
+returns c =
+    let ps = c.args.placements.now in
+    let found : c.position.result ≡ position outside ps = position_from_yields_List outside _ _ c.position.result c.position.ensures.ran (YieldsList-from_slice ps cc) (λ x b q k. search (rules, tests)) in
+    c.unwrap_or.ensures ∙ ap (λ r. unwrap_or r (length ps)) found ∙ found_first ps

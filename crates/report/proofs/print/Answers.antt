@@ -3,7 +3,7 @@ use Rattle.report_text.proofs.Fits.{text_within, text_held}
 use Rattle.report.proofs.print.Goals as goal
 
 pub slice_bounds-bytes-end : goal.slice_bounds-bytes-end
-slice_bounds-bytes-end c = text_within _ _ c.report-text.result c.report-text.ensures
+slice_bounds-bytes-end g c = text_within _ _ c.report-text.result c.report-text.ensures
 
 pub slice_bounds-write_all-end : goal.slice_bounds-write_all-end
-slice_bounds-write_all-end c = text_held _ _ c.report-text.result c.report-text.ensures
+slice_bounds-write_all-end g c = text_held _ _ c.report-text.result c.report-text.ensures
