@@ -144,6 +144,7 @@ pub fn refuse(when: bool, refusal: Refusal) -> Result<(), Refusal>
 }
 
 // The answer after one more check: the refusal where none was given before and its condition holds.
+// Kept with an answer in and out: because its contract stands, and `report_after` says by it that the sheet's own refusal is first.
 #[tactic(auto, unfolding(promises::specs::Order::after))]
 pub fn check(answer: Answer, when: bool, refusal: Answer) -> Answer
     ensures { told_of result ≡ after (check when (told_of refusal)) (told_of answer) }

@@ -38,6 +38,10 @@ module _ {r n e : ℕ} (h : Shape r n e) where
   pub byte_within : (m c : ℕ) → m < 192 → c < 256 / (n * e) → m * (256 / (n * e)) + c < 192 * (256 / (n * e))
   byte_within m c l k = omega (arith, mul-le-mul_right (256 / (n * e)) l, suc-mul m (256 / (n * e)))
 
+  -- and so does a line
+  pub line_within : (m : ℕ) → m < 192 → m * (256 / (n * e)) + 256 / (n * e) ≤ 192 * (256 / (n * e))
+  line_within m l = omega (arith, mul-le-mul_right (256 / (n * e)) l, suc-mul m (256 / (n * e)))
+
   -- and byte c of line m is byte m × W + c of the frame
   pub cell_start : (m c : ℕ) → m * 256 + c * (n * e) ≡ (m * (256 / (n * e)) + c) * (n * e)
   cell_start m c = sym (add-mul (m * (256 / (n * e))) c (n * e) ∙ ap (λ (x : ℕ). x + c * (n * e)) (mul_assoc m (256 / (n * e)) (n * e) ∙ ap (λ (x : ℕ). m * x) h.fills))

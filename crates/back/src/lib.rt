@@ -1,7 +1,7 @@
 // Reading a frame back into the strip that it shows.
 #![tactic(auto)]
 
-ghost use Rattle.std.specs.Prelude.{◌≡◌, true, false, ℕ, ◌+◌, ◌*◌, ◌/◌, ◌<◌, ◌≤◌, length, get_or};
+ghost use Rattle.std.specs.Prelude.{◌≡◌, true, false, ℕ, ◌+◌, ◌*◌, ◌/◌, ◌<◌, ◌≤◌, length, get_or, MatchOption};
 ghost use Rattle.promises.specs.Written.{Filled};
 ghost use Rattle.promises.specs.Told.{done};
 ghost use Rattle.promises.specs.Order.{first_of};
@@ -18,7 +18,8 @@ use answer::{Answer, Refusal};
 use settings::{FRAME_LENGTH, Look};
 
 // Gathering a strip's bytes off a frame: each element by its leftmost pixel.
-// Kept as slices whose lengths each contract names: because `read_back` is lent frames and strips of any length.
+// Kept as slices whose lengths each contract names: because each function asks for another part of these facts, and for the calls in `take` a struct would be no plainer.
+// `Shape` is kept as a clause: because a trait with these constants, their ghost numbers and the law would be longer than the clause.
 
 // The value of the element that shows a colour.
 #[tactic(auto, unfolding(crate::specs::Read::value))]
@@ -26,18 +27,20 @@ fn value<const VALUES: usize>(c: u8) -> usize
     ensures { (result ≡ value VALUES c) × (result < 4) }
 {
     if VALUES == 2 {
-        if c == 8 { 0 } else { 1 }
+        usize::from(c != 8)
     } else {
         usize::from(c % 4)
     }
 }
 
 // The byte of which `COUNT` elements of `DOTS` dots start at pixel `at`.
+// Kept with the frame and a place, here and in `line`: because `read`, which the contract of `read_back` rests on, reads at a place of the whole frame.
 fn byte<const VALUES: usize, const COUNT: usize, const DOTS: usize>(frame: &[u8], at: usize) -> u8
     requires { Shape VALUES COUNT DOTS × (at + COUNT * DOTS ≤ length frame.now) }
     ensures { result ≡ read VALUES COUNT DOTS frame.now at }
 {
     let mut v = 0;
+    // Kept with an index: because the pixels that count lie `DOTS` apart from a place on, and `skip`, `step_by`, `take` and `fold` say that no plainer.
     for j in 0..COUNT {
         v = v * VALUES + value::<VALUES>(frame[at + j * DOTS]);
     }
@@ -55,8 +58,9 @@ fn line<const VALUES: usize, const COUNT: usize, const DOTS: usize>(
 {
     let breadth = COUNT * DOTS;
     let width = 256 / breadth;
-    for c in 0..width {
-        strip[n * width + c] = byte::<VALUES, COUNT, DOTS>(frame, n * 256 + c * breadth);
+    let at = n * width;
+    for (c, gathered) in strip[at..at + width].iter_mut().enumerate() {
+        *gathered = byte::<VALUES, COUNT, DOTS>(frame, n * 256 + c * breadth);
     }
 }
 
@@ -65,6 +69,7 @@ fn lines<const VALUES: usize, const COUNT: usize, const DOTS: usize>(frame: &[u8
     requires { Shape VALUES COUNT DOTS × (frame_length ≤ length frame.now) × (192 * (256 / (COUNT * DOTS)) ≤ length strip.old) }
     ensures { Filled (λ i. read VALUES COUNT DOTS frame.now (i * (COUNT * DOTS))) 0 (192 * (256 / (COUNT * DOTS))) strip.old strip.new }
 {
+    // Kept as a loop over places: because with `chunks_exact_mut` it stays open what the strip is afterwards.
     for n in 0..192 {
         line::<VALUES, COUNT, DOTS>(frame, n, strip);
     }
@@ -99,7 +104,7 @@ fn shows(look: Look, c: u8) -> bool
 {
     let css = settings::css(look);
     if settings::gm(look) % 2 == 1 {
-        return (c == 4 * css) | (c == 8);
+        return c == 4 * css || c == 8;
     }
     c / 4 == css
 }
@@ -111,33 +116,27 @@ fn stray_at(look: Look, frame: &[u8], k: usize) -> bool
 {
     let c = frame[k];
     let left = frame[k - k % settings::dots(look)];
-    !(shows(look, c) & (c == left))
+    !shows(look, c) || c != left
 }
 
 // The first stray pixel, looked for one by one.
-fn search(look: Look, frame: &[u8]) -> usize
+fn search(look: Look, frame: &[u8]) -> Option<usize>
     requires { (graphics look ≡ true) × (frame_length ≤ length frame.now) }
-    ensures { result ≡ first_stray look frame.now }
+    ensures { MatchOption result (first_stray look frame.now ≡ frame_length) (λ k. (first_stray look frame.now ≡ k) × (k < frame_length)) }
 {
-    for k in 0..FRAME_LENGTH {
-        if stray_at(look, frame, k) {
-            return k;
-        }
-    }
-    FRAME_LENGTH
+    (0..FRAME_LENGTH).find(|k| stray_at(look, frame, *k))
 }
 
-// The first stray pixel, or 49,152 where there is none. Any strip may be lent; with the one read off the frame nothing is searched where no pixel is stray.
-// Kept as a number with 49,152 for none: because `back_pixels`, which the contract of `read_back` cites, has it so.
-fn first_stray(look: Look, strip: &[u8], frame: &[u8]) -> usize
+// The first stray pixel. Any strip may be lent; with the one read off the frame nothing is searched where no pixel is stray.
+fn first_stray(look: Look, strip: &[u8], frame: &[u8]) -> Option<usize>
     requires { (look.pins ≤ 63) × (graphics look ≡ true) × (192 * width look ≤ length strip.now) × (frame_length ≤ length frame.now) }
-    ensures { result ≡ first_stray look frame.now }
+    ensures { MatchOption result (first_stray look frame.now ≡ frame_length) (λ k. (first_stray look frame.now ≡ k) × (k < frame_length)) }
 {
     let mut picture = [0u8; FRAME_LENGTH];
     // in graphics no font is read: the strip stands in its place
     let _ = frame::draw(look, strip, strip, &mut picture);
     if frame[..FRAME_LENGTH] == picture[..] {
-        return FRAME_LENGTH;
+        return None;
     }
     search(look, frame)
 }
@@ -163,8 +162,7 @@ fn take(look: Look, frame: &[u8], strip: &mut [u8]) -> Answer
 {
     let mut bytes = [0u8; 6144];
     gather(look, frame, &mut bytes);
-    let k = first_stray(look, &bytes, frame);
-    if k < FRAME_LENGTH {
+    if let Some(k) = first_stray(look, &bytes, frame) {
         return Err(Refusal::Stray(k));
     }
     let length = settings::strip_length(look);

@@ -1,7 +1,7 @@
 -- The laws of laying, and that the contract fixes its outcome.
-pub mod Copied
 pub mod Signs
 pub mod Firsts
+pub mod Walks
 pub mod Patches
 pub mod Rectangles
 pub mod Turns

@@ -1,9 +1,9 @@
 // Adjoining plans on one canvas: rectangles of one frame laid over each other at signed positions.
 #![tactic(auto)]
 
-ghost use Rattle.std.specs.Prelude.{◌≡◌, [], ◌∷◌, ◌-◌, ◌≤◌, map, length};
+ghost use Rattle.std.specs.Prelude.{◌≡◌, [], ◌∷◌, ◌-◌, ◌≤◌, ◌<◌, map, length, MatchOption};
 ghost use Rattle.answer.specs.Told.{told_of};
-ghost use Rattle.plans.specs.Canvas.{area, with_counts, entered, laid, canvas_fits, outside, first_outside, order_told, lay_told, entries_after, canvas_after};
+ghost use Rattle.plans.specs.Canvas.{area, with_counts, entered, laid, canvas_fits, outside, first_outside, lay_told, entries_after, canvas_after};
 ghost use Rattle.canvas.specs.Patch.{side_of, Lies, Patched, Ready};
 
 use answer::{Answer, Refusal};
@@ -45,6 +45,7 @@ impl Patch {
         requires { Lies self (length frame.now) width (length canvas.old) }
         ensures { Patched frame.now self width canvas.old canvas.new }
     {
+        // Kept as a loop over places: because with `chunks_exact_mut` it stays open what the canvas is afterwards, as in crate `picture`.
         for i in 0..self.lines {
             let from = self.from + i * 256;
             let at = (self.line + i) * width + self.column;
@@ -101,14 +102,11 @@ fn is_outside(p: Placement) -> bool
         || 192 - p.top < p.down
 }
 
-// The index of the first placement whose rectangle is outside, the list's length where there is none.
-fn first_outside(placements: &[Placement]) -> usize
-    ensures { result ≡ first_outside placements.now }
+// The index of the first placement whose rectangle is outside.
+fn first_outside(placements: &[Placement]) -> Option<usize>
+    ensures { MatchOption result (first_outside placements.now ≡ length placements.now) (λ k. (first_outside placements.now ≡ k) × (k < length placements.now)) }
 {
-    placements
-        .iter()
-        .position(|p| is_outside(*p))
-        .unwrap_or(placements.len())
+    placements.iter().position(|p| is_outside(*p))
 }
 
 // Whether a canvas has its stated size.
@@ -124,27 +122,31 @@ fn canvas_fits(width: usize, height: usize, room: usize) -> bool
         && room <= 65536
 }
 
-// What is answered, from the lengths of what is lent and the first placement whose rectangle is outside.
-// Kept as six numbers: because `order_told`, in the promise of `lay`, is a function of these.
+// What is answered, by the lengths of what is lent and the first placement whose rectangle is outside.
 #[tactic(auto, unfolding(plans::specs::Canvas::order_told))]
 fn lay_answer(
-    frame: usize,
+    frame: &[u8],
+    placements: &[Placement],
     width: usize,
     height: usize,
-    room: usize,
-    count: usize,
-    first: usize,
+    canvas: &[u8],
 ) -> Answer
-    ensures { told_of result ≡ order_told frame width height room count first }
+    ensures { told_of result ≡ lay_told frame.now placements.now width height canvas.now }
 {
-    settings::short_frame(frame)?;
-    answer::refuse(!canvas_fits(width, height, room), Refusal::WrongCanvas)?;
-    answer::refuse(32 < count, Refusal::ManyPlacements)?;
-    answer::refuse(first < count, Refusal::OutsideFrame(first))?;
+    settings::short_frame(frame.len())?;
+    answer::refuse(
+        !canvas_fits(width, height, canvas.len()),
+        Refusal::WrongCanvas,
+    )?;
+    answer::refuse(32 < placements.len(), Refusal::ManyPlacements)?;
+    if let Some(first) = first_outside(placements) {
+        return Err(Refusal::OutsideFrame(first));
+    }
     Ok(0)
 }
 
 // Lays the placements of an accepted call in order, and enters the counts of each.
+// Kept with the canvas and its two sides beside each other: because `lay_told`, `entries_after` and `canvas_after`, in the promise of `lay`, take them so.
 fn lay_all(
     frame: &[u8],
     placements: &mut [Placement],
@@ -173,15 +175,7 @@ pub fn lay(
     ensures entries { placements.new ≡ entries_after frame.now placements.old width height canvas.old }
     ensures pixels { canvas.new ≡ canvas_after frame.now placements.old width height canvas.old }
 {
-    let first = first_outside(placements);
-    let done = lay_answer(
-        frame.len(),
-        width,
-        height,
-        canvas.len(),
-        placements.len(),
-        first,
-    )?;
+    let done = lay_answer(frame, placements, width, height, canvas)?;
     lay_all(frame, placements, width, height, canvas);
     Ok(done)
 }

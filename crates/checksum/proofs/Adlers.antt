@@ -1,8 +1,10 @@
--- Laws of Adler-32: its sums along a list, block by block, and that only the bytes that are summed count.
-use Prim.Native.Nat.{ℕ, zero, suc, ◌+◌, ◌*◌, ◌/◌, ◌<◌}
+-- Laws of Adler-32: its sums along a list, block by block, that they may be reduced later than at every byte, and that only the bytes that are summed count.
+use Prim.Native.Nat.{ℕ, zero, suc, ◌+◌, ◌*◌, ◌/◌, ◌%◌, ◌<◌}
 use mathlib.Core.Path.{◌≡◌, refl, ap, ap₂, ◌∙◌}
 use mathlib.Core.List.{List}
 use native.Mathlib.Omega.{arith}
+use native.Mathlib.Nat.{add-mod}
+use native.Mathlib.Numerals.{add-one}
 use lib.ListN.{length, get_or}
 use Rattle.std.proofs.Common.{drop}
 use Rattle.std.specs.List.{fold}
@@ -23,6 +25,22 @@ unfolding adler
 adler_of_list bytes n s low high e f =
     ap (λ (p : ℕ × ℕ). p.1 * 65536 + p.0)
     (f ∙ ap (λ (p : ℕ × ℕ). fold sums_byte p (drop (length bytes / n * n) bytes)) e ∙ whole_then_rest sums_byte n (length bytes / n) (1, 0) bytes ∙ along bytes)
+
+-- one byte more, to sums that are not reduced
+module _ (g : ℕ → ℕ) where
+  low_more : (n a : ℕ) → a % 65521 ≡ adler_low g n → (a + g n) % 65521 ≡ adler_low g (n + 1)
+  unfolding adler_low
+  low_more n a e = rw (add-one n, ← e) (omega arith)
+
+  high_more : (n a b : ℕ) → a % 65521 ≡ adler_low g (n + 1) → b % 65521 ≡ adler_high g n → (b + a) % 65521 ≡ adler_high g (n + 1)
+  unfolding adler_high
+  high_more n a b e f = add-mod b a 65521 ∙ ap₂ (λ (x y : ℕ). (x + y) % 65521) f e ∙ rw (add-one n) refl
+
+  pub sums_more : (n low high : ℕ) → (low % 65521 ≡ adler_low g n) × (high % 65521 ≡ adler_high g n)
+      → ((low + g n) % 65521 ≡ adler_low g (n + 1)) × ((high + (low + g n)) % 65521 ≡ adler_high g (n + 1))
+  sums_more n low high e =
+      let l : (low + g n) % 65521 ≡ adler_low g (n + 1) = low_more n low e.0 in
+      (l, high_more n (low + g n) high l e.1)
 
 -- only the bytes that are summed count
 low_by : {g h : ℕ → ℕ} (n : ℕ) → ((k : ℕ) → k < n → g k ≡ h k) → adler_low g n ≡ adler_low h n

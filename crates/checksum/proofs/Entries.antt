@@ -14,7 +14,7 @@ use Rattle.checksum.proofs.Xors.{xor_assoc}
 use Rattle.checksum.proofs.Crcs.{bits_add, bits_linear, bits_above, bits_past, byte_is}
 
 -- ---- the entries
-entry : (t m i : ℕ) → i < 256 → m ≡ 8 * (t + 1) → sliced (t * 256 + i) ≡ crc_bits m i
+pub entry : (t m i : ℕ) → i < 256 → m ≡ 8 * (t + 1) → sliced (t * 256 + i) ≡ crc_bits m i
 unfolding sliced
 entry t m i h e =
     let f : 8 * ((t * 256 + i) / 256 + 1) ≡ m = omega arith in
@@ -62,7 +62,7 @@ byte_by c b r e = by_first (bit_xor c b) r e ∙ sym (byte_is c b)
 
 -- ---- four bytes
 -- as a word, the first lowest
-abbrev word : ℕ → ℕ → ℕ → ℕ → ℕ
+abbrev pub word : ℕ → ℕ → ℕ → ℕ → ℕ
 word a b c d = a + b * 256 + c * 65536 + d * 16777216
 
 -- a word by its four bytes: each by a table of its own
@@ -99,7 +99,7 @@ is_word a b c d p q r =
     let e3 : bit_xor (a + b * 256 + c * 65536) (d * 2 ^ 24) ≡ word a b c d = xor_comm (a + b * 256 + c * 65536) (d * 2 ^ 24) ∙ xor_shifted d 24 (a + b * 256 + c * 65536) (omega arith) ∙ omega arith in
     rw (e1, e2) e3
 
-four_bytes : (r a b c d : ℕ) → a < 256 → b < 256 → c < 256 → crc_byte (crc_byte (crc_byte (crc_byte r a) b) c) d ≡ crc_bits 32 (bit_xor r (word a b c d))
+pub four_bytes : (r a b c d : ℕ) → a < 256 → b < 256 → c < 256 → crc_byte (crc_byte (crc_byte (crc_byte r a) b) c) d ≡ crc_bits 32 (bit_xor r (word a b c d))
 four_bytes r a b c d p q s =
     let x = bit_xor r a in
     let y = bit_xor x (b * 2 ^ 8) in
@@ -115,9 +115,9 @@ four_bytes r a b c d p q s =
     ∙ ap (bit_xor r) (is_word a b c d p q s))
 
 -- the same out of the tables
-four_by : (x : ℕ) → x < 4294967296 → (a b c d : ℕ) → a ≡ crc_bits 8 (x / 16777216 % 256) → b ≡ crc_bits 16 (x / 65536 % 256) → c ≡ crc_bits 24 (x / 256 % 256) → d ≡ crc_bits 32 (x % 256)
+pub by_parts : (x : ℕ) → x < 4294967296 → (a b c d : ℕ) → a ≡ crc_bits 8 (x / 16777216 % 256) → b ≡ crc_bits 16 (x / 65536 % 256) → c ≡ crc_bits 24 (x / 256 % 256) → d ≡ crc_bits 32 (x % 256)
     → bit_xor (bit_xor a b) (bit_xor c d) ≡ crc_bits 32 x
-four_by x h a b c d p q r s =
+by_parts x h a b c d p q r s =
     let top : x / 16777216 % 256 ≡ x / 16777216 = omega arith in
     ap₂ bit_xor (ap₂ bit_xor (p ∙ ap (crc_bits 8) top) q) (ap₂ bit_xor r s) ∙ sym (by_four x h)
 
@@ -135,4 +135,4 @@ pub four_more : (r w : ℕ) (bytes : List ℕ) → length bytes ≡ 4 → ((i : 
     → w ≡ word (get_or bytes 0 0) (get_or bytes 1 0) (get_or bytes 2 0) (get_or bytes 3 0) → bit_xor r w < 4294967296 → (a b c d : ℕ) → a ≡ crc_bits 8 (bit_xor r w / 16777216 % 256) → b ≡ crc_bits 16 (bit_xor r w / 65536 % 256)
     → c ≡ crc_bits 24 (bit_xor r w / 256 % 256) → d ≡ crc_bits 32 (bit_xor r w % 256) → bit_xor (bit_xor a b) (bit_xor c d) ≡ fold crc_byte r bytes
 four_more r w bytes l s e h a b c d p q t u =
-    four_by (bit_xor r w) h a b c d p q t u ∙ ap (λ (x : ℕ). crc_bits 32 (bit_xor r x)) e ∙ sym (after_four r bytes l s)
+    by_parts (bit_xor r w) h a b c d p q t u ∙ ap (λ (x : ℕ). crc_bits 32 (bit_xor r x)) e ∙ sym (after_four r bytes l s)

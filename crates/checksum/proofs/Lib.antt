@@ -3,6 +3,7 @@ pub mod Xors
 pub mod Chunks
 pub mod Crcs
 pub mod Entries
+pub mod Words
 pub mod Adlers
 pub mod Unique
 pub mod Examples

@@ -18,6 +18,7 @@ const MODULUS: u32 = 65521;
 const BLOCK: usize = 2048;
 
 // The register after one bit.
+#[tactic(auto, using(crate::proofs::Crcs::bit_odd, crate::proofs::Crcs::bit_even))]
 fn crc_bit(c: u32) -> u32
     ensures { result ≡ crc_bit c }
 {
@@ -57,7 +58,7 @@ struct Tables {
 
 impl Tables {
     fn new() -> Tables {
-        // A loop over places, since each entry is made from those before it.
+        // Kept as a loop over places: because each entry is made from those before it.
         let mut entries = [0u32; 1024];
         for n in 0..1024 {
             entries[n] = next_entry(&entries, n);

@@ -15,6 +15,7 @@ fn is_control(address: u16) -> bool
 }
 
 // The word after one write: which bit, by halving the distance from $FFC0, and set or cleared by the address being odd.
+#[tactic(auto, unfolding(crate::specs::Control::word_after), using(crate::proofs::Addresses::bounds, crate::proofs::Addresses::in_word, crate::proofs::Masks::set_mask, crate::proofs::Masks::clear_mask))]
 fn word_after(word: u16, address: u16) -> u16
     requires { is_control address ≡ true }
     ensures { result ≡ word_after word address }

@@ -84,7 +84,7 @@ fn keep_all(
 
 // The record.
 
-// The bytes of a report.
+// The bytes of a report. Kept here and in `report`: because one function for both would be a public one of `report_text`.
 fn bytes_of(text: &Text) -> &[u8] {
     let bytes = &text.bytes[..];
     &bytes[..text.len.min(bytes.len())]

@@ -50,8 +50,11 @@ module _ (s : Settings) where
   pub lasts_some : 0 < row_lasts s
   lasts_some = of_both (λ (n : ℕ). 0 < n) (clears_b4 s) (mul-pos (width_pos s.look) (lines_some s)) (omega (arith, div_x_pos s))
 
+  pub places_le : w * line_lasts s ≤ 32 * 192
+  places_le = mul-le-mul (width_le s.look) (lines_le s)
+
   pub lasts_le : row_lasts s ≤ 32 * 192
-  lasts_le = of_both (λ (n : ℕ). n ≤ 32 * 192) (clears_b4 s) (mul-le-mul (width_le s.look) (lines_le s)) (omega (arith, div_x_le s))
+  lasts_le = of_both (λ (n : ℕ). n ≤ 32 * 192) (clears_b4 s) places_le (omega (arith, div_x_le s))
 
   pub lasts_runs : row_lasts s ≡ 16 * (row_lasts s / 16)
   lasts_runs =

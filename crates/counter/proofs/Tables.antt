@@ -1,8 +1,5 @@
 -- What document 01's table by V2-V0 says: bounds of the dividers, and what a line's end keeps of an address.
-use Rattle.std.proofs.Common.{◌≡◌, ℕ, ◌+◌, ◌*◌, ◌/◌, ◌%◌, ◌^◌, ◌<◌, ◌≤◌, false, ◌||◌, eqb, leb, List, [], ◌∷◌, get_or, subst, mod-lt, mod-eq_of_lt, arith, lit<, eqb→eq, leb→le, ne_eqb}
-use mir.Val.{has_key}
-use types.Run.{OneOf, hit}
-use Rattle.promises.proofs.Choices.{by_test}
+use Rattle.std.proofs.Common.{◌≡◌, ℕ, ◌+◌, ◌*◌, ◌/◌, ◌%◌, ◌^◌, ◌<◌, ◌≤◌, eqb, leb, List, [], ◌∷◌, get_or, subst, mod-lt, arith, lit<, eqb→eq, leb→le}
 use Rattle.promises.proofs.Tables.{each_below, each}
 use Rattle.settings.specs.declared.Settings.{Settings}
 use Rattle.settings.specs.Fields.{video_mode}
@@ -19,9 +16,6 @@ div_y_le s = leb→le (div_y s) 12 (each_below (λ v. leb (get_or times_y v 0) 1
 
 pub div_y_pos : (s : Settings) → 0 < div_y s
 div_y_pos s = leb→le 1 (div_y s) (each_below (λ v. leb 1 (get_or times_y v 0)) 8 tt (video_mode s) (mod-lt _ (lit< tt)))
-
-pub divs_le : (s : Settings) → div_x s * div_y s ≤ 12
-divs_le s = leb→le (div_x s * div_y s) 12 (each_below (λ v. leb (get_or times_x v 0 * get_or times_y v 0) 12) 8 tt (video_mode s) (mod-lt _ (lit< tt)))
 
 -- facts about X and Y by the rows of the table, the smallest first
 pub by_x : (s : Settings) (P : ℕ → Type 0) → P 1 → P 2 → P 3 → P (div_x s)
@@ -44,31 +38,6 @@ by_both s P a b c d =
 pub by_kept : (s : Settings) (P : ℕ → Type 0) → P 5 → P 4 → P 1 → P (kept s)
 by_kept s P p q r = each P kept_from 0 (p, (q, (p, (q, (p, (q, (p, (r, tt)))))))) (video_mode s) (mod-lt _ (lit< tt))
 
-pub kept_lt : (s : Settings) → kept s < 16
-kept_lt s = by_kept s (λ k. k < 16) (omega arith) (omega arith) (omega arith)
-
 -- the address with its cleared bits at 0 is no larger
 pub cleared_le : (s : Settings) (a : ℕ) → a / 2 ^ kept s * 2 ^ kept s + a % 2 ≤ a
 cleared_le s a = by_kept s (λ k. a / 2 ^ k * 2 ^ k + a % 2 ≤ a) (omega arith) (omega arith) (omega arith)
-
--- `(a >> k) << k` loses no bit above
-pub shifted : (s : Settings) (a : ℕ) → a < 2 ^ 16 → a / 2 ^ kept s * 2 ^ kept s % 65536 ≡ a / 2 ^ kept s * 2 ^ kept s
-shifted s a h = mod-eq_of_lt (omega (arith, cleared_le s a))
-
--- ---- what the tables say of the numbers that no arm of the code's `match` names, each by one computed test
-pub x_rest : (v : ℕ) → v < 8 → (v ≡ 1 → ⊥) → (v ≡ 3 → ⊥) → 1 ≡ get_or times_x v 0
-x_rest v h p q =
-    eqb→eq 1 (get_or times_x v 0) (rw (ne_eqb v 1 p, ne_eqb v 3 q) at (each_below (λ n. eqb n 1 || (eqb n 3 || eqb 1 (get_or times_x n 0))) 8 tt v h))
-
-pub y_rest : (v : ℕ) → v < 8 → (v ≡ 0 → ⊥) → (v ≡ 2 → ⊥) → (v ≡ 4 → ⊥) → 1 ≡ get_or times_y v 0
-y_rest v h p q r =
-    eqb→eq 1 (get_or times_y v 0) (rw (ne_eqb v 0 p, ne_eqb v 2 q, ne_eqb v 4 r) at (each_below (λ n. eqb n 0 || (eqb n 2 || (eqb n 4 || eqb 1 (get_or times_y n 0)))) 8 tt v h))
-
--- of arms that name several numbers
-no_key : (ks : List ℕ) (v : ℕ) → (OneOf ks v → ⊥) → has_key ks v ≡ false
-no_key ks v n = by_test (has_key ks v) (λ e. absurd (n (hit ks v (rw e tt)))) (λ e. e)
-
-pub kept_rest : (v : ℕ) → v < 8 → (OneOf (0 ∷ 2 ∷ 4 ∷ 6 ∷ []) v → ⊥) → (OneOf (1 ∷ 3 ∷ 5 ∷ []) v → ⊥) → 1 ≡ get_or kept_from v 0
-kept_rest v h p q =
-    let t = each_below (λ n. has_key (0 ∷ 2 ∷ 4 ∷ 6 ∷ []) n || (has_key (1 ∷ 3 ∷ 5 ∷ []) n || eqb 1 (get_or kept_from n 0))) 8 tt v h in
-    eqb→eq 1 (get_or kept_from v 0) (rw (no_key (0 ∷ 2 ∷ 4 ∷ 6 ∷ []) v p, no_key (1 ∷ 3 ∷ 5 ∷ []) v q) at t)

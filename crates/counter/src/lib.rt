@@ -1,8 +1,8 @@
 // The SAM's video address counter.
 #![tactic(auto)]
 
-ghost use Rattle.std.specs.Prelude.{◌≡◌, ◌<◌, slice_index};
-ghost use Rattle.counter.specs.Counter.{times_x, times_y, kept_from, start, fall, carry, advance, cleared, clearing_counts, clear};
+ghost use Rattle.std.specs.Prelude.{◌≡◌};
+ghost use Rattle.counter.specs.Counter.{div_x, div_y, kept, start, fall, carry, advance, cleared, clearing_counts, clear};
 ghost use Rattle.counter.specs.Steps.{clears_b4, ends_count, row_lasts, line_lasts, one_stretch, line_step};
 
 use settings::{Rule, Settings};
@@ -16,22 +16,20 @@ pub struct Counter {
 }
 
 // X, Y and the lowest bit that a line's end keeps above B0, by V2-V0. Each is a `match`, since a constant array is built anew wherever it is indexed.
-fn times_x(v: usize) -> usize
-    requires { v < 8 }
-    ensures { result ≡ slice_index times_x v }
+fn times_x(settings: Settings) -> usize
+    ensures { result ≡ div_x settings }
 {
-    match v {
+    match settings::video_mode(settings) {
         1 => 3,
         3 => 2,
         _ => 1,
     }
 }
 
-fn times_y(v: usize) -> usize
-    requires { v < 8 }
-    ensures { result ≡ slice_index times_y v }
+fn times_y(settings: Settings) -> usize
+    ensures { result ≡ div_y settings }
 {
-    match v {
+    match settings::video_mode(settings) {
         0 => 12,
         2 => 3,
         4 => 2,
@@ -39,11 +37,10 @@ fn times_y(v: usize) -> usize
     }
 }
 
-fn kept_from(v: usize) -> u16
-    requires { v < 8 }
-    ensures { result ≡ slice_index kept_from v }
+fn kept_from(settings: Settings) -> u16
+    ensures { result ≡ kept settings }
 {
-    match v {
+    match settings::video_mode(settings) {
         0 | 2 | 4 | 6 => 5,
         1 | 3 | 5 => 4,
         _ => 1,
@@ -61,44 +58,38 @@ fn clearing_counts(rule: Rule) -> bool
 fn clears_b4(settings: Settings) -> bool
     ensures { result ≡ clears_b4 settings }
 {
-    let kept = kept_from(settings::video_mode(settings));
-    kept == 5
+    kept_from(settings) == 5
 }
 
 // Whether every line's end counts on the Y divider.
 fn ends_count(settings: Settings) -> bool
     ensures { result ≡ ends_count settings }
 {
-    let rule = settings.rule;
     let one_run = settings::width(settings.look) == 16;
-    let cleared = clears_b4(settings);
-    clearing_counts(rule) & (one_run & cleared)
+    clearing_counts(settings.rule) && one_run && clears_b4(settings)
 }
 
 // How many lines in a row have the places of the first of them, the same throughout a frame.
 pub fn line_lasts(settings: Settings) -> usize
     ensures { result ≡ line_lasts settings }
 {
-    let v = settings::video_mode(settings);
-    let x = times_x(v);
-    let y = times_y(v);
+    let x = times_x(settings);
+    let y = times_y(settings);
     let one_run = settings::width(settings.look) == 16;
-    let cleared = clears_b4(settings);
     if ends_count(settings) {
         return y;
     }
-    if one_run & cleared {
+    if one_run && clears_b4(settings) {
         return 192;
     }
-    if one_run | (x == 1) { x * y } else { 1 }
+    if one_run || x == 1 { x * y } else { 1 }
 }
 
 // Whether each line is one stretch of places.
 pub fn one_stretch(settings: Settings) -> bool
     ensures { result ≡ one_stretch settings }
 {
-    let x = times_x(settings::video_mode(settings));
-    (settings::width(settings.look) == 16) | (x == 1)
+    settings::width(settings.look) == 16 || times_x(settings) == 1
 }
 
 // How far such a stretch lies from the one before.
@@ -106,7 +97,7 @@ pub fn line_step(settings: Settings) -> u16
     ensures { result ≡ line_step settings }
 {
     let two_runs = settings::width(settings.look) == 32;
-    if clears_b4(settings) | two_runs {
+    if clears_b4(settings) || two_runs {
         32
     } else {
         16
@@ -114,10 +105,11 @@ pub fn line_step(settings: Settings) -> u16
 }
 
 // How many fetches a row of 32 places lasts, the same for every row of a frame.
+#[tactic(auto, using(crate::proofs::Rows::places_le))]
 pub fn row_lasts(settings: Settings) -> usize
     ensures { result ≡ row_lasts settings }
 {
-    let x = times_x(settings::video_mode(settings));
+    let x = times_x(settings);
     let wide = settings::width(settings.look);
     let lines = line_lasts(settings);
     if clears_b4(settings) {
@@ -128,6 +120,7 @@ pub fn row_lasts(settings: Settings) -> usize
 }
 
 // The counter before a frame's first byte.
+#[tactic(auto, unfolding(crate::specs::Counter::start))]
 pub fn start(settings: Settings) -> Counter
     ensures { result ≡ start settings }
 {
@@ -140,15 +133,15 @@ pub fn start(settings: Settings) -> Counter
 
 impl Counter {
     // The counter where B0-B3 pass 15: they return to 0, and the dividers count.
+    #[tactic(auto, unfolding(crate::specs::Counter::carry, crate::specs::Counter::fall))]
     pub fn carry(self, settings: Settings) -> Counter
         ensures { result ≡ carry settings self }
     {
-        let v = settings::video_mode(settings);
         let run = self.address / 16 * 16;
-        let next = std::num::wrapping_add_u16(run, 16);
+        let next = run.wrapping_add(16);
         let x = self.x;
         let y = self.y;
-        if (x as usize) + 1 < times_x(v) {
+        if usize::from(x) + 1 < times_x(settings) {
             return Counter {
                 address: run,
                 x: x + 1,
@@ -163,8 +156,9 @@ impl Counter {
                 y,
             };
         }
-        // B4 falls. `fall` is written out here: a counter that a call returns is packed, which makes fetching slower
-        if (y as usize) + 1 < times_y(v) {
+        // B4 falls. Kept as `fall` written out: with a call, a program that fetches and clears takes a fifth to a third longer where each line
+        // is one stretch, and a quarter less where it is not.
+        if usize::from(y) + 1 < times_y(settings) {
             return Counter {
                 address: run - 16,
                 x: 0,
@@ -179,6 +173,7 @@ impl Counter {
     }
 
     // The counter after one byte.
+    #[tactic(auto, unfolding(crate::specs::Counter::advance))]
     pub fn advance(self, settings: Settings) -> Counter
         ensures { result ≡ advance settings self }
     {
@@ -187,19 +182,18 @@ impl Counter {
             return self.carry(settings);
         }
         Counter {
-            address: std::num::wrapping_add_u16(address, 1),
-            x: self.x,
-            y: self.y,
+            address: address.wrapping_add(1),
+            ..self
         }
     }
 
     // The counter whose B4 has gone from 1 to 0: the Y divider counts.
+    #[tactic(auto, unfolding(crate::specs::Counter::fall))]
     fn fall(self, settings: Settings) -> Counter
         ensures { result ≡ fall settings self }
     {
-        let v = settings::video_mode(settings);
         let y = self.y;
-        if (y as usize) + 1 < times_y(v) {
+        if usize::from(y) + 1 < times_y(settings) {
             return Counter {
                 address: self.address,
                 x: self.x,
@@ -207,7 +201,7 @@ impl Counter {
             };
         }
         Counter {
-            address: std::num::wrapping_add_u16(self.address, 32),
+            address: self.address.wrapping_add(32),
             x: self.x,
             y: 0,
         }
@@ -217,8 +211,7 @@ impl Counter {
     fn cleared(self, settings: Settings) -> Counter
         ensures { result ≡ cleared settings self }
     {
-        let v = settings::video_mode(settings);
-        let kept = kept_from(v);
+        let kept = kept_from(settings);
         let address = self.address;
         Counter {
             address: ((address >> kept) << kept) + address % 2,
@@ -228,13 +221,13 @@ impl Counter {
     }
 
     // The counter after a line's last byte.
+    #[tactic(auto, unfolding(crate::specs::Counter::clear))]
     pub fn clear(self, settings: Settings) -> Counter
         ensures { result ≡ clear settings self }
     {
         let cleared = self.cleared(settings);
-        let rule = settings.rule;
-        let drops = (self.address / 16 % 2 == 1) & (cleared.address / 16 % 2 == 0);
-        if clearing_counts(rule) & drops {
+        let drops = self.address / 16 % 2 == 1 && cleared.address / 16 % 2 == 0;
+        if clearing_counts(settings.rule) && drops {
             return cleared.fall(settings);
         }
         cleared

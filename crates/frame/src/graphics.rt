@@ -24,23 +24,26 @@ fn shades(look: Look) -> [u8; 2048]
 }
 
 // Copies the eight dots of byte b into the frame, each `STRETCH` pixels wide.
+// Kept with the frame and a place, here and in `plot_line`: because a line is promised by places of the whole frame, and what a part promises
+// would have to be moved to those.
 fn copy<const STRETCH: usize>(table: &[u8; 2048], b: u8, frame: &mut [u8], at: usize)
     requires { Stretch STRETCH × (at + 8 * STRETCH ≤ length frame.old) }
     ensures { Filled (λ k. get_or table.now (b * 8 + (k - at) / STRETCH) 0) at (at + 8 * STRETCH) frame.old frame.new }
 {
     let from = usize::from(b) * 8;
-    // Kept as one loop: because it serves both widths, and `copy_from_slice` only that of one pixel.
-    for t in 0..8 * STRETCH {
-        frame[at + t] = table[from + t / STRETCH];
+    for (t, pixel) in frame[at..at + 8 * STRETCH].iter_mut().enumerate() {
+        *pixel = table[from + t / STRETCH];
     }
 }
 
 // Draws line n of a graphics frame.
+// `Stretch STRETCH` is kept as a clause, here and around it: because a trait with the constant, its ghost number and the law would be longer than the clause.
 fn plot_line<const STRETCH: usize>(table: &[u8; 2048], strip: &[u8], n: usize, frame: &mut [u8])
     requires { Stretch STRETCH × (n < 192) × (192 * (32 / STRETCH) ≤ length strip.now) × (frame_length ≤ length frame.old) }
     ensures { Filled (plotted STRETCH table.now strip.now) (n * 256) (n * 256 + 256) frame.old frame.new }
 {
     let width = 32 / STRETCH;
+    // Kept as a loop over places, here and in `plot_lines`: because with `chunks_exact_mut` it stays open what the frame is afterwards.
     for c in 0..width {
         copy::<STRETCH>(
             table,

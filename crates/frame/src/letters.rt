@@ -16,7 +16,7 @@ use settings::Look;
 fn lower(look: Look, b: u8) -> bool
     ensures { result ≡ lower look b }
 {
-    !settings::external(look) & ((settings::gm(look) % 2 == 1) & (b < 32))
+    !settings::external(look) && (settings::gm(look) % 2 == 1 && b < 32)
 }
 
 // Which pattern of the font a letter shows.
@@ -34,15 +34,13 @@ fn pattern(look: Look, b: u8) -> usize
     }
 }
 
-// 1 where a letter is inverted, else 0.
+// 1 where a letter is inverted, else 0: lower case is, and of the others those with DD6.
+// Kept as a number: because it is compared with GM1, which is one.
 #[tactic(auto, unfolding(pixel::specs::Text::inverted))]
 fn inverted(look: Look, b: u8) -> usize
     ensures { result ≡ inverted look b }
 {
-    if lower(look, b) {
-        return 1;
-    }
-    usize::from(b / 64 % 2)
+    usize::from(lower(look, b) || b / 64 % 2 == 1)
 }
 
 // The lit dots of Semigraphics 4 on a row.
@@ -106,8 +104,8 @@ impl<'a> Font<'a> {
         ensures { Filled (λ n. lit self.now.look self.now.patterns.now (n / 12) (n % 12)) (b * 12) (b * 12 + 12) rows.old rows.new }
     {
         let at = usize::from(b) * 12;
-        for row in 0..12 {
-            rows[at + row] = self.lit(b, row);
+        for (row, dots) in rows[at..at + 12].iter_mut().enumerate() {
+            *dots = self.lit(b, row);
         }
     }
 
@@ -116,8 +114,8 @@ impl<'a> Font<'a> {
         ensures { (n : ℕ) → n < 3072 → get_or result n 0 ≡ lit self.now.look self.now.patterns.now (n / 12) (n % 12) }
     {
         let mut rows = [0u8; 3072];
-        for b in 0..256usize {
-            self.glyph(b as u8, &mut rows);
+        for b in 0..=u8::MAX {
+            self.glyph(b, &mut rows);
         }
         rows
     }
@@ -138,14 +136,16 @@ impl Masks {
     }
 
     // Puts eight dots into the frame, in `ink` where they are lit and else black, 8: the mask of a lit dot takes the difference of the two off 8.
+    // Kept with the frame and a place, here and in `line`: because a line is promised by places of the whole frame, and what a part promises would
+    // have to be moved to those. The masks are told by an index: `zip` has no promise here of what the part ends as.
     fn tint(&self, lit: u8, ink: u8, frame: &mut [u8], at: usize)
         requires { (ink < 8) × (at + 8 ≤ length frame.old) }
         ensures { Filled (λ k. one_bit ink black lit (k - at)) at (at + 8) frame.old frame.new }
     {
         let from = usize::from(lit) * 8;
         let difference = 8 - ink;
-        for t in 0..8 {
-            frame[at + t] = 8 - (difference & self.of_bits[from + t]);
+        for (t, pixel) in frame[at..at + 8].iter_mut().enumerate() {
+            *pixel = 8 - (difference & self.of_bits[from + t]);
         }
     }
 }
@@ -165,6 +165,7 @@ impl Letters {
         ensures { Filled (typed self.now.look self.now.rows strip.now) (n * 256) (n * 256 + 256) frame.old frame.new }
     {
         let row = n % 12;
+        // Kept as a loop over places, here and in `text`: because with `chunks_exact_mut` it stays open what the frame is afterwards.
         for c in 0..32 {
             let b = strip[n * 32 + c];
             let lit = self.rows[usize::from(b) * 12 + row];

@@ -33,7 +33,7 @@ fn draw_answer(look: Look, font: usize, strip: &[u8], frame: usize) -> Answer
 }
 
 // Draws the picture, where nothing is refused.
-// Kept as slices whose lengths each contract names: because `draw` is lent strips and frames of any length.
+// Kept as slices whose lengths each contract names: because `frame_after`, in the promise of `draw`, speaks of a frame of any length, and an array of its front would have to be moved into it again.
 fn paint(look: Look, font: &[u8], strip: &[u8], frame: &mut [u8])
     requires { DrawFits look (length font.now) (length strip.now) (length frame.old) }
     ensures { Filled (picture look font.now strip.now) 0 frame_length frame.old frame.new }

@@ -21,6 +21,7 @@ fn two_bits(b: u8, j: usize) -> u8
 }
 
 // The eight bits of every byte, from the left: `on` for 1 and `off` for 0.
+// Kept as two functions, this and `by_pairs`: because one with a closure for the dot would promise only what the closure answers, and each table would still need a function of its own.
 pub(crate) fn by_bits(on: u8, off: u8) -> [u8; 2048]
     ensures { (n : ℕ) → n < 2048 → get_or result n 0 ≡ one_bit on off (n / 8) (n % 8) }
 {

@@ -53,8 +53,7 @@ pub fn settings_of(sheet: &[u8]) -> Intake
     if let Err(refusal) = fields.answer {
         return refused(refusal, annotations);
     }
-    let writes = fields.writes;
-    let word = match control::play(0, &writes[..fields.write_count]) {
+    let word = match control::play(0, &fields.writes[..fields.write_count]) {
         Ok(word) => word as u16,
         Err(refusal) => return refused(refusal, annotations),
     };

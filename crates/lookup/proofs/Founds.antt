@@ -18,7 +18,7 @@ use Rattle.grammar.specs.Sheet.{eq, nl, same, Annotation, ValidAnnotation, line,
 use Rattle.grammar.specs.Given.{accepted, fields_in, tail_from, annotation_from, annotation_at}
 use Rattle.grammar.proofs.Keys.{same_eq, same_refl}
 use Rattle.grammar.proofs.Parts.{some_accepted, line_from, line_in}
-use Rattle.lookup.specs.declared.Span.{Span}
+use Rattle.scan.specs.declared.Span.{Span}
 use Rattle.lookup.specs.Lookup.{first_with, has_key, value_in, value_from}
 use Rattle.lookup.specs.Steps.{found_in}
 

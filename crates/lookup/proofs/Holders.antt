@@ -14,7 +14,7 @@ use Rattle.promises.specs.Part.{PartOf}
 use Rattle.promises.proofs.Choices.{of_both}
 use Rattle.promises.proofs.Parts.{part_move}
 use Rattle.grammar.specs.Given.{accepted, told_in}
-use Rattle.lookup.specs.declared.Span.{Span}
+use Rattle.scan.specs.declared.Span.{Span}
 use Rattle.lookup.specs.declared.Piece.{Piece}
 use Rattle.lookup.specs.Steps.{found_in}
 use Rattle.lookup.specs.Lookup.{has_key, holder_told, piece_of, no_piece, held, HeldPart}

@@ -10,7 +10,7 @@ use borrow.Author.Tests.{eq-eqb, ne_eqb, eqb-true, eqb-false, not-true}
 use lib.Dec.{eqb, leb, ltb}
 use lib.ListN.{length, take, drop, length-append}
 use Rattle.std.proofs.Common.{Some, None, cond, nat_lt, ◌==◌}
-use Rattle.std.specs.List.{fold, list_any, position, position_or_len}
+use Rattle.std.specs.List.{list_any, position, position_or_len}
 use Rattle.std.specs.Cmp.Lexicographic.{pointwise}
 use Rattle.std.specs.Option.{unwrap_or}
 use Rattle.std.proofs.lemmas.Bool.Decides.{nat_tests}
@@ -59,17 +59,6 @@ module _ (a : Annotation) (v : ValidAnnotation a) (x : List ℕ) where
 
   pub line_keyed : (k : List ℕ) → keyed_by k (line a ++ (nl ++ x)) ≡ same a.key k
   line_keyed k = ap (keyed_by k) (append_assoc a.key (eq ++ a.value) (nl ++ x)) ∙ key_is a.key k (a.value ++ (nl ++ x)) v.key_bytes
-
--- ---- the searches
--- whether a line end is among some bytes, as a fold says it
-any_from : (a : Bool) (s : List ℕ) → fold (λ (ends : Bool) b. ends || (b == 10)) a s ≡ a || list_any (λ b. b == 10) s
-any_from true [] = refl
-any_from false [] = refl
-any_from true (b ∷ s) = any_from true s
-any_from false (b ∷ s) = any_from (b == 10) s
-
-pub any_by : (s : List ℕ) → fold (λ (ends : Bool) b. ends || (b == 10)) false s ≡ list_any (λ b. b == 10) s
-any_by s = any_from false s
 
 -- where none is among the first n, the line goes on behind them
 goes_by : (b : ℕ) (n : ℕ) (s : List ℕ) (t : Bool) → eqb b 10 ≡ t → t || list_any (λ b. b == 10) (take n s) ≡ false

@@ -5,7 +5,7 @@ use Rattle.promises.specs.Told.{told, done}
 use Rattle.answer.specs.declared.Refusal.{Refusal}
 use Rattle.answer.specs.Told.{told_by}
 use Rattle.grammar.specs.Given.{accepted, told_in, tail_from}
-use Rattle.lookup.specs.declared.Span.{Span}
+use Rattle.scan.specs.declared.Span.{Span}
 use Rattle.lookup.specs.declared.Piece.{Piece}
 use Rattle.lookup.specs.Lookup.{has_key, value_in, value_from, holder_told, held, no_piece}
 

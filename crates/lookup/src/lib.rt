@@ -9,13 +9,7 @@ ghost use Rattle.lookup.specs.Lookup.{holder_told, held, HeldPart};
 ghost use Rattle.lookup.specs.Steps.{to_line_end, keyed_by, found_in, LinesFrom, Finds};
 
 use answer::{Answer, Refusal};
-
-// Where a value lies in its sheet: from which byte on, and its number of bytes.
-#[derive(Clone, Copy)]
-struct Span {
-    from: usize,
-    size: usize,
-}
+use scan::Span;
 
 // A piece of one of the two sheets: of the cover or of the record's, from which byte on, and its number of bytes.
 // Kept with `in_cover` beside the place: because `held` and `HeldPart`, in the promise of `value`, speak of this struct.
@@ -26,11 +20,11 @@ struct Piece {
     size: usize,
 }
 
-// Whether a line end is among 16 bytes. There is no early exit, so that they are compared at once.
+// Whether a line end is among 16 bytes.
 fn ends_within(block: &[u8; 16]) -> bool
     ensures { result ≡ list_any (λ b. b == 10) block.now }
 {
-    block.iter().fold(false, |ends, b| ends | (*b == b'\n'))
+    block.contains(&b'\n')
 }
 
 // How many bytes stand before the first line end: blocks of 16 bytes in which there is none are passed.
@@ -59,12 +53,14 @@ fn has_key(line: &[u8], key: &[u8]) -> bool
 }
 
 // The first value under the key in an accepted sheet, the annotation lines beginning at `from`.
+// Kept with the sheet and a place: because the value is told by its place in the whole sheet.
 fn seek(s: &[u8], from: usize, key: &[u8]) -> Option<Span>
     requires s_value { accepted s.now ≡ true }
     requires from_value { from ≡ tail_from s.now }
     ensures { result ≡ found_in s.now key.now }
 {
     let mut at = from;
+    // Kept as a `while`: because each turn goes on by the size of the line that it reads, which no range or iterator counts.
     while at < s.len() {
         let line = &s[at..];
         let size = line_end(line);
@@ -91,6 +87,7 @@ fn lines_from(sheet: &[u8]) -> Result<usize, Refusal>
 }
 
 // Accepts both sheets, then asks the record's for the key, and only where it lacks it the cover: the piece that the value is, or the refusal.
+// Kept with `record`, `cover` and `key` beside each other: because `holder` and `value` take them so.
 fn find(record: &[u8], cover: &[u8], key: &[u8]) -> Result<Piece, Refusal>
     ensures { Finds «record».now cover.now key.now result }
 {

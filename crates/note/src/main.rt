@@ -59,6 +59,7 @@ fn print_refusal(rt: &impl Print, refusal: Refusal, record: &[u8]) -> io::Result
 // Asks for the key, and prints what the clerk is told.
 fn print(rt: &impl Print, record: &[u8], cover: &[u8], key: &[u8]) -> io::Result<()> {
     let value = lookup::value(record, cover, key);
+    // Kept as a number, 0 for the record's sheet: because `holder` is public, and `holder_told` in its contract has it so.
     match lookup::holder(record, cover, key) {
         Ok(0) => print_value(rt, Holder::Record, value),
         Ok(_) => print_value(rt, Holder::Cover, value),

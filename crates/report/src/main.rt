@@ -4,9 +4,8 @@
 // Prints the report of a sheet.
 fn print(rt: &(impl Print + Eprint), sheet: &[u8]) {
     let text = report_text::report(sheet);
-    let bytes = text.bytes;
-    let len = text.len;
-    if rt.write_all(&bytes[..len]).is_err() {
+    let bytes = &text.bytes[..];
+    if rt.write_all(&bytes[..text.len.min(bytes.len())]).is_err() {
         let _ = eprintln!(rt; "report: the output is not whole");
     }
 }

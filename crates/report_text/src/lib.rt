@@ -1,8 +1,8 @@
 // The report's text, whole.
 #![tactic(auto)]
 
-ghost use Rattle.std.specs.Prelude.{◌≡◌, ◌+◌, ◌≤◌, ◌<◌, [], ◌++◌, length, drop};
-ghost use Rattle.answer.specs.Told.{told_of};
+ghost use Rattle.std.specs.Prelude.{◌≡◌, ◌==◌, ◌+◌, ◌≤◌, ◌<◌, [], ◌++◌, length, drop};
+ghost use Rattle.answer.specs.Told.{told_by, told_of};
 ghost use Rattle.text.specs.Hex.{hex_digit, hex};
 ghost use Rattle.grammar.specs.Sheet.{rule_digit, nl};
 ghost use Rattle.grammar.specs.Given.{fields_in};
@@ -10,7 +10,7 @@ ghost use Rattle.intake.specs.Intake.{settings_in};
 ghost use Rattle.report_text.specs.Words.{decimal, text_of, held, HasRoom};
 ghost use Rattle.report_text.specs.Report.{setting_lines, annotated, text_for, report_of, report_after};
 
-use answer::Answer;
+use answer::{Answer, Refusal};
 use intake::Intake;
 use settings::{Rule, Settings};
 
@@ -28,6 +28,7 @@ const START_KEY: [u8; 6] = *b"start=";
 const ANNOTATIONS_KEY: [u8; 12] = *b"annotations=";
 
 // A report: the first `len` bytes, the rest 0.
+// Kept as bytes and a length: because `text_of`, the promise of `report`, fixes the bytes behind the text too, and `report` takes no allocator and cannot fail.
 #[derive(Drop)]
 pub struct Text {
     pub bytes: [u8; 32768],
@@ -35,7 +36,8 @@ pub struct Text {
 }
 
 // The digits of a number: those from `from` on.
-// Kept as an array with a place: because the library takes no allocator, and a number of 64 bits may have one digit or twenty.
+// Kept as an array with a place, and digits by hand: because the library takes no allocator, and `write!` promises its text only where it
+// answers `Ok`, while `report` promises the text of every sheet and cannot fail.
 #[derive(Clone, Copy)]
 struct Digits {
     bytes: [u8; 20],
@@ -43,6 +45,7 @@ struct Digits {
 }
 
 // A number in decimal.
+// Kept as a `while`: because each turn divides what is left, and how many there are no range or iterator counts.
 fn decimal(n: usize) -> Digits
     ensures { (drop result.from result.bytes ≡ decimal n) × (result.from ≤ 20) × (length result.bytes ≡ 20) }
 {
@@ -60,6 +63,7 @@ fn decimal(n: usize) -> Digits
 }
 
 // The byte of a hex digit.
+// Kept as a function: because `char::from_digit` gives small letters, and a report has capitals.
 fn hex_digit(d: u16) -> u8
     requires { d < 16 }
     ensures { result ≡ hex_digit d }
@@ -84,6 +88,7 @@ fn hex(n: u16) -> [u8; 4]
 }
 
 // The digit of a rule.
+// Kept as a function: because a `From` would stand in `settings`, beside `Rule`, which knows nothing of a text's digits.
 fn rule_digit(rule: Rule) -> u8
     ensures { result ≡ rule_digit rule }
 {
@@ -164,6 +169,13 @@ impl Text {
     }
 }
 
+// Whether a sheet is refused as broken.
+fn is_broken(refusal: Refusal) -> bool
+    ensures { result ≡ ((told_by refusal).number == 11) }
+{
+    matches!(refusal, Refusal::BrokenSheet(_))
+}
+
 // The text where an answer is told of a sheet, by what was taken in of it.
 fn text_for(sheet: &[u8], taken: Intake, answer: Answer) -> Text
     requires count_value { taken.annotations ≡ length (fields_in sheet.now).annotations }
@@ -173,14 +185,14 @@ fn text_for(sheet: &[u8], taken: Intake, answer: Answer) -> Text
     let number = answer::number(answer);
     let mut text = Text::new();
     text.number_line(&STATUS_KEY, usize::from(number));
-    if number == 0 {
+    let Err(refusal) = answer else {
         text.line(&scan::DEED_KEY, sheet::deed(sheet));
         text.setting_lines(taken.settings);
         text.annotations(sheet, taken.annotations);
         return text;
-    }
+    };
     text.number_line(&PLACE_KEY, answer::place(answer));
-    if number == 11 {
+    if is_broken(refusal) {
         return text;
     }
     text.line(&scan::DEED_KEY, sheet::deed(sheet));
@@ -203,6 +215,7 @@ pub fn report_after(sheet: &[u8], answer: Answer) -> Text
 {
     let taken = intake::settings_of(sheet);
     let own = taken.answer;
+    // Kept by `check`: because `report_after`, its promise, is said by `after`, as that of `check` is.
     let told = answer::check(own, true, answer);
     text_for(sheet, taken, told)
 }

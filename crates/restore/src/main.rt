@@ -16,6 +16,7 @@ use std::rt::{Env, Files};
 const WHO: &str = "restore";
 
 // The value of a hex digit in capitals.
+// Kept as a match: because `char::to_digit` takes small letters too, which no sheet has.
 fn digit(b: u8) -> Option<u8>
     ensures { IfSome result (λ value. value < 16) }
 {

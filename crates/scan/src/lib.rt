@@ -53,6 +53,7 @@ fn behind<T>(before: usize, reading: Reading<T>) -> Reading<T>
 }
 
 // What one pass over a sheet finds: its fields, the length of its deed and where its annotations begin.
+// The writes are kept with their count: because `outline_of`, the promise of `survey`, has 64 places, and the library takes no allocator.
 #[derive(Clone, Copy)]
 pub struct Outline {
     pub deed: usize,
@@ -80,6 +81,7 @@ pub fn survey(s: &[u8]) -> Result<Outline, usize>
     let ruled = behind(pins.size, ruled_count(&s[pins.size..]))?;
     let (rule, write_count) = ruled.value;
     let lines = behind(ruled.size, write_lines(&s[ruled.size..], write_count))?;
+    // Kept as a local: because the prover does not cover an array's field that is made part of a literal.
     let writes = lines.value;
     let notes = behind(lines.size, annotation_lines(&s[lines.size..]))?;
     Ok(Outline {
@@ -94,6 +96,7 @@ pub fn survey(s: &[u8]) -> Result<Outline, usize>
 }
 
 // Where annotation line n, counted from 0, lies, and how long it is without its line end; past the last, and of a refused sheet, both are 0.
+// Kept without an option: because `from_value` and `size_value`, its promise, give both numbers there too.
 pub fn annotation(s: &[u8], n: usize) -> Span
     ensures from_value { result.from ≡ annotation_from s.now n }
     ensures size_value { result.size ≡ length (line_at (fields_in s.now).annotations n) }

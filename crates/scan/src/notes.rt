@@ -53,6 +53,7 @@ pub(crate) fn annotation_lines(rest: &[u8]) -> Reading<usize>
 }
 
 // Where annotation n of a whole sheet lies, the annotation lines beginning at `from`.
+// Kept with the sheet and a place: because `annotation_from`, its promise, is a place of the whole sheet.
 pub(crate) fn annotation_start(s: &[u8], from: usize, n: usize) -> usize
     requires s_value { accepted s.now ≡ true }
     requires from_value { (from ≡ tail_from s.now) × (n < length (fields_in s.now).annotations) }

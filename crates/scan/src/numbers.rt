@@ -10,6 +10,7 @@ use crate::lines::{Hex, keyed_line, word};
 use crate::{AT_KEY, Found, Reading, WRITES_KEY, behind};
 
 // The number of the hex digit b.
+// Kept as a function: because b is known to be a digit, and `to_digit` would answer an option that is never empty.
 fn digit_of(b: u8) -> u16
     requires { hex_byte b ≡ true }
     ensures { result ≡ unhex b }

@@ -10,6 +10,7 @@ use crate::{Found, RULE_KEY, Reading, behind};
 use settings::Rule;
 
 // The rule of the digit b.
+// Kept as a function: because a `From` would stand in `settings`, beside `Rule`, which knows nothing of a sheet's digits.
 fn rule_of(b: u8) -> Rule
     ensures { result ≡ rule_of (b ∷ []) }
 {

@@ -34,6 +34,7 @@ fn length_answer(
 }
 
 // The work, where no length is refused: the bytes are fetched into an array here, and stored in the strip once drawing them is not refused.
+// Kept with the parameters of `show`, here and in `length_answer`: because a struct that is made once for these two would be no plainer.
 fn render(
     settings: Settings,
     image: &[u8],

@@ -1,7 +1,8 @@
 // What is read off a control word and a pin byte: the SAM's fields, the video chip's pins, and the mode they name.
 #![tactic(auto)]
 
-ghost use Rattle.std.specs.Prelude.{◌≡◌, ◌<◌};
+ghost use Rattle.std.specs.Prelude.{◌≡◌, ◌<◌, slice_index};
+ghost use Rattle.promises.specs.Choose.{choose};
 ghost use Rattle.answer.specs.Told.{Says};
 ghost use Rattle.settings.specs.Fields.{bits, video_mode, offset, fast, memory, graphics, external, gm, css};
 ghost use Rattle.settings.specs.Banks.{bank_bit, full_size, suited};
@@ -11,6 +12,7 @@ ghost use Rattle.settings.specs.Modes.{width, dots, border, font_size, mode_name
 use answer::Refusal;
 
 // The look of a frame: the pin byte, fixed for a frame.
+// Kept with free functions in place of methods, as `Settings` is: because the list of operations in claims names them so, as `settings::css`.
 #[derive(Clone, Copy)]
 pub struct Look {
     pub pins: u8,
@@ -32,6 +34,7 @@ pub struct Settings {
 }
 
 // A mode's name: the first `len` bytes, the rest 0.
+// Kept as bytes and a length: because `named`, in the promise of `mode_name`, fixes all three bytes, and the library takes no allocator.
 #[derive(Clone, Copy)]
 pub struct Name {
     pub bytes: [u8; 3],
@@ -41,6 +44,7 @@ pub struct Name {
 // The length of a frame: 192 lines of 256 pixels.
 pub const FRAME_LENGTH: usize = 49152;
 
+// By GM2-GM0. Kept as tables beside one another: because `width`, `dots` and `mode_name`, in the promises of these functions, each read a list of their own.
 const WIDTHS: [usize; 8] = [16, 16, 32, 16, 32, 16, 32, 32];
 
 const DOTS: [usize; 8] = [4, 2, 2, 2, 2, 2, 2, 1];
@@ -63,7 +67,7 @@ fn field(word: u16, at: u16, count: u16) -> u16
 pub fn video_mode(settings: Settings) -> usize
     ensures { result ≡ video_mode settings }
 {
-    field(settings.word, 0, 3) as usize
+    usize::from(field(settings.word, 0, 3))
 }
 
 // F6-F0, the start of the window in steps of 512 bytes.
@@ -84,7 +88,7 @@ fn fast(settings: Settings) -> bool
 fn memory(settings: Settings) -> usize
     ensures { result ≡ memory settings }
 {
-    field(settings.word, 13, 2) as usize
+    usize::from(field(settings.word, 13, 2))
 }
 
 // Which bit of an address is its bank. With M1 set it is one past the last, which no address has.
@@ -109,32 +113,51 @@ fn full_size(settings: Settings) -> usize
     }
 }
 
+// `count` bits of the pin byte from bit `at` on.
+fn pin(look: Look, at: u16, count: u16) -> u16
+    requires { (at < 16) × (count < 16) }
+    ensures { result ≡ bits look.pins at count }
+{
+    field(u16::from(look.pins), at, count)
+}
+
 // A/G: whether the mode is graphics.
 pub fn graphics(look: Look) -> bool
     ensures { result ≡ graphics look }
 {
-    field(look.pins as u16, 5, 1) == 1
+    pin(look, 5, 1) == 1
 }
 
 // A/G and INT/EXT: whether the mode is text with external characters.
 pub fn external(look: Look) -> bool
     ensures { result ≡ external look }
 {
-    !graphics(look) & (field(look.pins as u16, 4, 1) == 1)
+    !graphics(look) && pin(look, 4, 1) == 1
 }
 
 // GM2-GM0 as a number.
 pub fn gm(look: Look) -> usize
     ensures { result ≡ gm look }
 {
-    field(look.pins as u16, 1, 3) as usize
+    usize::from(pin(look, 1, 3))
 }
 
 // CSS, which of two colour sets is shown.
 pub fn css(look: Look) -> u8
     ensures { result ≡ css look }
 {
-    field(look.pins as u16, 0, 1) as u8
+    pin(look, 0, 1) as u8
+}
+
+// An entry of a table by GM2-GM0, where the mode is graphics, and the number of text else.
+fn by_mode(look: Look, table: &[usize; 8], text: usize) -> usize
+    ensures { result ≡ choose (graphics look) (slice_index table.now (gm look)) text }
+{
+    if graphics(look) {
+        table[gm(look)]
+    } else {
+        text
+    }
 }
 
 // W, the bytes a line.
@@ -142,8 +165,7 @@ pub fn css(look: Look) -> u8
 pub fn width(look: Look) -> usize
     ensures { result ≡ width look }
 {
-    let g = gm(look);
-    if graphics(look) { WIDTHS[g] } else { 32 }
+    by_mode(look, &WIDTHS, 32)
 }
 
 // 192 × W, the length of a strip.
@@ -159,8 +181,7 @@ pub fn strip_length(look: Look) -> usize
 pub fn dots(look: Look) -> usize
     ensures { result ≡ dots look }
 {
-    let g = gm(look);
-    if graphics(look) { DOTS[g] } else { 1 }
+    by_mode(look, &DOTS, 1)
 }
 
 // The border's colour.
@@ -172,10 +193,10 @@ pub fn border(look: Look) -> u8
         return 4 * css(look);
     }
     // GM2, and then GM1
-    if field(look.pins as u16, 3, 1) == 0 {
+    if pin(look, 3, 1) == 0 {
         return 8;
     }
-    if field(look.pins as u16, 2, 1) == 1 {
+    if pin(look, 2, 1) == 1 {
         return 8;
     }
     7 * css(look)
@@ -200,7 +221,7 @@ pub fn mode_name(look: Look) -> Name
         };
     }
     Name {
-        bytes: [b'A', 49 + (g % 4) as u8, 0],
+        bytes: [b'A', b'1' + (g % 4) as u8, 0],
         len: 2,
     }
 }
@@ -249,7 +270,7 @@ fn suits(settings: Settings, length: usize) -> bool
     ensures { result ≡ suited settings length }
 {
     let bank = 1 << bank_bit(settings);
-    (length == bank) | (length == full_size(settings))
+    length == bank || length == full_size(settings)
 }
 
 // 16: image length not suited to M.
@@ -271,7 +292,7 @@ fn font_size(look: Look) -> usize
 pub fn font_length(look: Look, length: usize) -> Result<(), Refusal>
     ensures { Says (font_length look length) result }
 {
-    let wrong = !graphics(look) & !(length == font_size(look));
+    let wrong = !graphics(look) && length != font_size(look);
     answer::refuse(wrong, Refusal::FontLength)
 }
 

@@ -13,6 +13,8 @@ use settings::Rule;
 
 // What a sheet holds: its pins, its rule, its write addresses with 0 in the places that are not used, and its number of annotations.
 // A refused sheet's answer has the place; its rule is 1 and its other fields are 0.
+// Kept with the answer beside the fields: because `HeldIn`, the promise of `read`, gives every field of a refused sheet too.
+// The writes are kept with their count: because `HeldIn` has 64 places, and the library takes no allocator.
 #[derive(Clone, Copy)]
 pub struct Sheet {
     pub answer: Answer,
@@ -29,6 +31,7 @@ pub fn read(sheet: &[u8]) -> Sheet
 {
     match scan::survey(sheet) {
         Ok(found) => {
+            // Kept as a local: because the prover does not cover an array's field that is made part of a literal.
             let writes = found.writes;
             Sheet {
                 answer: Ok(0),

@@ -1,7 +1,7 @@
 // The strip of fetched bytes, and how many bytes of the image it touched.
 #![tactic(auto)]
 
-ghost use Rattle.std.specs.Prelude.{◌≡◌, ℕ, ◌+◌, ◌-◌, ◌*◌, ◌%◌, ◌<◌, ◌≤◌, true, false, ◌⊎◌, length, slice_index};
+ghost use Rattle.std.specs.Prelude.{◌≡◌, ℕ, ◌+◌, ◌-◌, ◌*◌, ◌%◌, ◌<◌, ◌≤◌, true, false, ◌⊎◌, length, slice_index, MatchOption};
 ghost use Rattle.promises.specs.Told.{done};
 ghost use Rattle.promises.specs.Order.{first_of};
 ghost use Rattle.promises.specs.Written.{Filled};
@@ -10,67 +10,63 @@ ghost use Rattle.settings.specs.Modes.{width};
 ghost use Rattle.settings.specs.Banks.{suited, image_place, missing};
 ghost use Rattle.settings.specs.Refusals.{strip_length};
 ghost use Rattle.counter.specs.Steps.{one_stretch};
-ghost use Rattle.strip.specs.Fetch.{fetched_byte, first_missing, not_fitted_at, not_fitted, fetch_order, fetch_told, strip_after};
+ghost use Rattle.strip.specs.Fetch.{fetched_byte, first_missing, not_fitted, fetch_order, fetch_told, strip_after};
 ghost use Rattle.strip.specs.Steps.{rows_left, Fitted};
 ghost use Rattle.strip.specs.Touched.{touched_bytes, fetch_touched};
 
 use answer::{Answer, Refusal};
-use settings::{Look, Settings};
+use settings::Settings;
 
 // The active lines of a frame.
 const LINES: usize = 192;
 
 // Whether an image of this length lacks the bank of an address.
+#[tactic(auto, unfolding(settings::specs::Banks::missing), using(settings::proofs::Banks::bit_lt, settings::proofs::Banks::bank_shifted))]
 fn lacks(settings: Settings, size: usize, address: u16) -> bool
     ensures { result ≡ missing settings size address }
 {
     let bit = settings::bank_bit(settings);
-    let bank = ((address as usize) >> bit) % 2;
+    let bank = (usize::from(address) >> bit) % 2;
     size <= bank << bit
 }
 
 // How many rows of 32 places lie between an address and the next bank.
+#[tactic(auto, using(settings::proofs::Banks::bit_lt, settings::proofs::Banks::bank_some, settings::proofs::Banks::one_shifted))]
 fn rows_left(settings: Settings, address: u16) -> usize
     ensures { result ≡ rows_left settings address }
 {
     let size = 1 << settings::bank_bit(settings);
-    (size - (address as usize) % size) / 32
+    (size - usize::from(address) % size) / 32
 }
 
-// The strip index of the first fetch from a bank that an image of this length lacks, and 192 × W where there is none. No fetch is made for it:
-// B5-B15 tell the bank, and every row of 32 places lasts as long as the first.
-fn first_missing(settings: Settings, size: usize) -> usize
-    ensures { result ≡ first_missing settings size }
+// The strip index of the first fetch from a bank that an image of this length lacks. No fetch is made for it: B5-B15 tell the bank,
+// and every row of 32 places lasts as long as the first.
+fn first_missing(settings: Settings, size: usize) -> Option<usize>
+    ensures { MatchOption result (first_missing settings size ≡ strip_length settings.look) (λ k. (first_missing settings size ≡ k) × (k < strip_length settings.look)) }
 {
     let total = settings::strip_length(settings.look);
     let start = counter::start(settings);
     // Where the last bank is fitted, every bank is.
     if !lacks(settings, size, 65535) {
-        return total;
+        return None;
     }
     if lacks(settings, size, start.address) {
-        return 0;
+        return Some(0);
     }
     let first = rows_left(settings, start.address) * counter::row_lasts(settings);
-    if first < total { first } else { total }
+    if first < total { Some(first) } else { None }
 }
 
 // 17: a fetch from a bank not fitted, by the index of the first.
-fn not_fitted_at(look: Look, first: usize) -> Result<(), Refusal>
-    ensures { Says (not_fitted_at look first) result }
-{
-    answer::refuse(
-        first < settings::strip_length(look),
-        Refusal::NotFitted(first),
-    )
-}
-
-// The same, by the settings and the length of the image: for both at once. Fetching itself does not call it, since what is called from
-// two crates is compiled as a call, and an answer that a call returns is packed, which makes fetching slower.
+// Kept apart from fetching, which asks the same by itself: where it calls this, SAM mode 0 takes 3 % longer and mode 1 with 16 bytes a line
+// a tenth longer, while modes 1 and 3 with 32 take a quarter less.
 pub fn not_fitted(settings: Settings, size: usize) -> Result<(), Refusal>
     ensures { Says (not_fitted settings size) result }
 {
-    not_fitted_at(settings.look, first_missing(settings, size))
+    if let Some(k) = first_missing(settings, size) {
+        return Err(Refusal::NotFitted(k));
+    }
+    Ok(())
 }
 
 // The place in an image of an address whose bank is fitted: the lengths are powers of two, and the bits below are kept.
@@ -78,7 +74,7 @@ fn place(settings: Settings, size: usize, address: u16) -> usize
     requires { (suited settings size ≡ true) × (missing settings size address ≡ false) }
     ensures { result ≡ image_place settings address }
 {
-    (address as usize) & (size - 1)
+    usize::from(address) & (size - 1)
 }
 
 // A run: the 16 bytes of a slice from the place `from` on. A local array overlaps nothing lent, so it is filled by one move.
@@ -105,6 +101,8 @@ fn put_run(run: &[u8; 16], places: &mut [u8])
 }
 
 // Reads an aligned run of 16 bytes of the image, from the place `from` on, into the strip, from `at` on. Hands back how many bytes it read.
+// Kept with places beside the slices, here and in `run_at`, `read_line` and `repeat_line`: because the laws of the walk that join them name places of the whole
+// image and strip, and what a part promises would have to be moved to those at every call.
 fn read_run(image: &[u8], from: usize, strip: &mut [u8], at: usize) -> usize
     requires { (from + 16 ≤ length image.now) × (at + 16 ≤ length strip.old) }
     ensures value { result ≡ 16 }
@@ -146,6 +144,8 @@ fn repeat_line(strip: &mut [u8], at: usize, wide: usize, end: usize)
 // Fetches the frame where each line is one stretch: it is read once, and the lines that have its places are made from the strip.
 // Hands back how many bytes of the image it read. Kept as a `while`: over `(0..LINES).step_by(lasts)`, which tests twice a stretch,
 // SAM mode 1 takes a tenth longer.
+// Kept with settings, image and strip as parameters, here and in `runs` and `all_lines`: because `fetch` lends all three once, and each
+// method of a struct with the strip as `&mut` would take it apart again.
 fn stretches(settings: Settings, image: &[u8], strip: &mut [u8]) -> usize
     requires { (suited settings (length image.now) ≡ true) × (192 * width settings.look ≤ length strip.old) × Fitted settings (length image.now) × (one_stretch settings ≡ true) }
     ensures value { result ≡ touched_bytes settings }
@@ -163,13 +163,14 @@ fn stretches(settings: Settings, image: &[u8], strip: &mut [u8]) -> usize
         let from = place(settings, size, address);
         touched += read_line(image, from, strip, n * wide, wide);
         repeat_line(strip, n * wide, wide, (n + lasts) * wide);
-        address = std::num::wrapping_add_u16(address, step);
+        address = address.wrapping_add(step);
         n += lasts;
     }
     touched
 }
 
 // The same where it is not: two runs a line, each fetched X times on through the lines' ends, so that no line has the places of the one before.
+// Kept by the number of the run: because `chunks_exact_mut` and `as_chunks_mut` say nothing of what the strip ends as.
 fn runs(settings: Settings, image: &[u8], strip: &mut [u8]) -> usize
     requires { (suited settings (length image.now) ≡ true) × (192 * width settings.look ≤ length strip.old) × Fitted settings (length image.now) × (one_stretch settings ≡ false) }
     ensures value { result ≡ touched_bytes settings }
@@ -208,11 +209,14 @@ fn length_answer(settings: Settings, image: usize, strip: usize) -> Answer
     settings::image_length(image)?;
     settings::not_suited(settings, image)?;
     settings::short_strip(look, strip)?;
-    not_fitted_at(look, first_missing(settings, image))?;
+    if let Some(k) = first_missing(settings, image) {
+        return Err(Refusal::NotFitted(k));
+    }
     Ok(settings::strip_length(look))
 }
 
 // What fetching answers, and how many bytes of the image it touched.
+// It stays a struct, with the count beside the answer: because clause `count` of `fetch` promises the count of a refused call too.
 #[derive(Clone, Copy)]
 pub struct Fetching {
     pub answer: Answer,

@@ -32,10 +32,13 @@ fn chip_answer(k: usize, lent: usize, room: usize) -> Answer
 }
 
 // Copies 64 bytes, which lie `side` apart, to 64 places in a row. A line of the cache has as many.
+// Kept with `lent`, `side` and `room` beside each other, here and below: because each call lends other parts of the two, so that a struct of them would be made anew at every call.
+// `side ≤ 256` is kept as a clause here and below: because a struct around this one number would be no plainer, as every clause counts with it.
 fn piece(lent: &[u8], side: usize, room: &mut [u8])
     requires { (side ≤ 256) × (63 * side < length lent.now) × (length room.old ≡ 64) }
     ensures { (k : ℕ) → k < 64 → get_or room.new k 0 ≡ get_or lent.now (k * side) 0 }
 {
+    // Kept with an index: because with `zip` and `step_by` it stays open what the room holds afterwards.
     for (i, byte) in room.iter_mut().enumerate() {
         *byte = lent[i * side];
     }
@@ -48,6 +51,7 @@ fn columns(lent: &[u8], side: usize, column: usize, room: &mut [u8])
     requires crossed { Crossed lent.now side column room.old }
     ensures { Crossed lent.now side (column + 64) room.new }
 {
+    // Kept as a loop over places, here and in `banks`: because with `chunks_exact_mut` it stays open what the room is afterwards.
     for row in 0..side {
         let at = row * side + column;
         piece(&lent[column * side + row..], side, &mut room[at..at + 64]);
@@ -60,6 +64,7 @@ fn bank(lent: &[u8], side: usize, room: &mut [u8])
     requires banks { (length lent.now ≡ side * side) × (length room.old ≡ side * side) }
     ensures { (k : ℕ) → k < side * side → get_or room.new k 0 ≡ get_or lent.now (transposed side k) 0 }
 {
+    // Kept as a loop over places: because 64 columns lie in every row of the bank, and are no part of it.
     for column in (0..side).step_by(64) {
         columns(lent, side, column, room);
     }
@@ -72,6 +77,7 @@ fn banks(lent: &[u8], side: usize, room: &mut [u8])
     ensures { Filled (transposed_byte side lent.now) 0 (length lent.now) room.old room.new }
 {
     let size = side * side;
+    // Kept as a loop over places: because with `chunks_exact_mut` it stays open what the room is afterwards, as in crate `picture`.
     for base in (0..lent.len()).step_by(size) {
         bank(&lent[base..base + size], side, &mut room[base..base + size]);
     }

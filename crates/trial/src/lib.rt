@@ -53,7 +53,7 @@ pub fn cut(s: &[u8], n: usize) -> &[u8]
 }
 
 // The byte at a place, 0 past the end.
-// Kept as a test and an index: because the edit past_the_numbers shows here that no read past the end is proved.
+// Kept as a test and an index: because the edit past_the_numbers is a wrong test here, and with `get` there is none to be wrong.
 pub fn byte_at(s: &[u8], i: usize) -> usize
     ensures { result ≡ slice_index s.now i }
 {
@@ -61,6 +61,7 @@ pub fn byte_at(s: &[u8], i: usize) -> usize
 }
 
 // Puts a byte at a place, if there is one.
+// Kept as a test and an index: because `get_mut` promises nothing of the slice after a write through what it lends.
 pub fn put(s: &mut [u8], place: usize, byte: u8)
     ensures { s.new ≡ set s.old place byte }
 {
@@ -73,10 +74,7 @@ pub fn put(s: &mut [u8], place: usize, byte: u8)
 fn run(per: usize, k: usize) -> usize
     ensures { result ≡ run per k }
 {
-    if per == 0 {
-        return 0;
-    }
-    k / per
+    k.checked_div(per).unwrap_or(0)
 }
 
 // The byte laid at a place.
@@ -185,16 +183,28 @@ impl fmt::Display for Figure {
     }
 }
 
-// The rule that a line is under, by its number as `settings_of` takes it, if it is rule 2.
+// The number of a rule.
 #[derive(Clone, Copy)]
-pub struct Under(pub usize);
+pub struct RuleNumber(pub Rule);
+
+impl fmt::Display for RuleNumber {
+    fn fmt<W: fmt::Write>(&self, f: &mut fmt::Formatter<W>) -> fmt::Result {
+        f.write_str(match self.0 {
+            Rule::One => "1",
+            Rule::Two => "2",
+        })
+    }
+}
+
+// The rule that a line is under, if it is rule 2.
+#[derive(Clone, Copy)]
+pub struct Under(pub Rule);
 
 impl fmt::Display for Under {
     fn fmt<W: fmt::Write>(&self, f: &mut fmt::Formatter<W>) -> fmt::Result {
-        if self.0 == 2 {
-            write!(f, "rule 2 ")
-        } else {
-            Ok(())
+        match self.0 {
+            Rule::One => Ok(()),
+            Rule::Two => write!(f, "rule 2 "),
         }
     }
 }

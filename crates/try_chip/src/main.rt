@@ -56,9 +56,9 @@ fn transposed<F: Fn(usize, &[u8], &mut [u8]) -> Answer>(
     name: &str,
     row: Row,
     bytes: &[u8],
-    operation: F,
+    operation: &F,
 ) -> io::Result<()>
-    requires { F.IsAlwaysCallable operation }
+    requires { F.IsAlwaysCallable operation.now }
 {
     let (k, lent, size) = row;
     let mut buffer = [0u8; 65600];
@@ -76,18 +76,18 @@ fn transposed<F: Fn(usize, &[u8], &mut [u8]) -> Answer>(
     )
 }
 
-// To an image from what was read off the chips, by the rows.
-fn to_images(rt: &impl Print, rows: &[Row], bytes: &[u8]) -> io::Result<()> {
+// Transposes by an operation, named, for each of some rows.
+fn transposed_each<F: Fn(usize, &[u8], &mut [u8]) -> Answer>(
+    rt: &impl Print,
+    name: &str,
+    rows: &[Row],
+    bytes: &[u8],
+    operation: F,
+) -> io::Result<()>
+    requires { F.IsAlwaysCallable operation }
+{
     for &row in rows {
-        transposed(rt, "to image", row, bytes, transpose::to_image)?;
-    }
-    Ok(())
-}
-
-// To the chips from an image, by the rows.
-fn to_chips(rt: &impl Print, rows: &[Row], bytes: &[u8]) -> io::Result<()> {
-    for &row in rows {
-        transposed(rt, "to chip", row, bytes, transpose::to_chip)?;
+        transposed(rt, name, row, bytes, &operation)?;
     }
     Ok(())
 }
@@ -110,9 +110,9 @@ fn twice(rt: &impl Print, bytes: &[u8]) -> io::Result<()> {
 fn main(rt: HostRuntime) -> io::Result<()> {
     let mut bytes = [0u8; 131072];
     lay(&mut bytes, 0, 1, 61);
-    to_images(&rt, &IMAGES, &bytes)?;
-    to_chips(&rt, &CHIPS, &bytes)?;
-    to_images(&rt, &NO_IMAGES, &bytes)?;
-    to_chips(&rt, &NO_CHIPS, &bytes)?;
+    transposed_each(&rt, "to image", &IMAGES, &bytes, transpose::to_image)?;
+    transposed_each(&rt, "to chip", &CHIPS, &bytes, transpose::to_chip)?;
+    transposed_each(&rt, "to image", &NO_IMAGES, &bytes, transpose::to_image)?;
+    transposed_each(&rt, "to chip", &NO_CHIPS, &bytes, transpose::to_chip)?;
     twice(&rt, &bytes)
 }

@@ -10,7 +10,8 @@ use trial::{Answered, Figure, Under, byte_at, cut, lay, mark, settings_of, sum, 
 
 // == Addresses: figures P5 to P9, by the counter and by fetching.
 
-// A figure, the word, the pins, the rule, and a line and a byte of it.
+// A figure, the word, the pins, the rule, and a line and a byte of it. Kept as a tuple, as the rows of the other tables: because a name at every
+// number would break a table that has a line a call.
 type Place = (Option<u8>, usize, usize, usize, u8, u8);
 
 // The figures.
@@ -75,7 +76,7 @@ fn address(rt: &impl Print, row: Place, low: &[u8], high: &[u8]) -> io::Result<(
     let settings = settings_of(word, pins, rule);
     let counter = bytes_on(settings, line_start(settings, line), usize::from(byte));
     let k = settings::width(settings.look) * usize::from(line) + usize::from(byte);
-    print!(rt; "{}{}word {word:04X}", Figure(figure), Under(rule))?;
+    print!(rt; "{}{}word {word:04X}", Figure(figure), Under(settings.rule))?;
     print!(rt;
         " pins {pins:02X} line {line} byte {byte}: address {:04X}",
         counter.address
@@ -152,7 +153,10 @@ fn fetch_each(rt: &impl Print, rows: &[Row], bytes: &[u8]) -> io::Result<()> {
         let room = strip.min(buffer.len());
         let settings = settings_of(word, pins, rule);
         let f = strip::fetch(settings, cut(bytes, image), &mut buffer[..room]);
-        print!(rt; "{}fetch word {word:04X} pins {pins:02X}", Under(rule))?;
+        print!(rt;
+            "{}fetch word {word:04X} pins {pins:02X}",
+            Under(settings.rule)
+        )?;
         print!(rt; " image {image} strip {strip}: {}", Answered(f.answer))?;
         println!(rt;
             ", touched {}, strip kept from {}",
@@ -200,9 +204,13 @@ const ENDS: [Window; 7] = [
 fn strip_sum(rt: &impl Print, row: Image, bytes: &[u8]) -> io::Result<()> {
     let (word, pins, rule, image) = row;
     let mut strip = [0u8; 6144];
-    let f = strip::fetch(settings_of(word, pins, rule), cut(bytes, image), &mut strip);
+    let settings = settings_of(word, pins, rule);
+    let f = strip::fetch(settings, cut(bytes, image), &mut strip);
     let fetched = cut(&strip, answer::value(f.answer));
-    print!(rt; "{}strip word {word:04X} pins {pins:02X}", Under(rule))?;
+    print!(rt;
+        "{}strip word {word:04X} pins {pins:02X}",
+        Under(settings.rule)
+    )?;
     print!(rt; " image {image}: {}", Answered(f.answer))?;
     println!(rt; ", touched {}, sum {}", f.touched, sum(fetched))
 }
@@ -356,9 +364,10 @@ fn touched(row: Image, bytes: &[u8]) -> usize {
 // Every SAM mode from a word on.
 fn counts(rt: &impl Print, row: Image, bytes: &[u8]) -> io::Result<()> {
     let (word, pins, rule, image) = row;
+    let settings = settings_of(word, pins, rule);
     print!(rt;
         "{}touched word {word:04X} pins {pins:02X} image {image}:",
-        Under(rule)
+        Under(settings.rule)
     )?;
     for mode in 0..8 {
         print!(rt; " {}", touched((word | mode, pins, rule, image), bytes))?;

@@ -130,7 +130,7 @@ fn wide(rt: &impl Print) -> io::Result<()> {
     sheets(BARE, BARE).try_keys(rt, &[b"a"])
 }
 
-// RecordAndCover that are refused: the record's, the cover, both, and an empty one.
+// Sheets that are refused: the record's, the cover, both, and an empty one.
 fn brokens(rt: &impl Print) -> io::Result<()> {
     sheets(BROKEN, COVER).try_keys(rt, &[b"parish", b"at"])?;
     sheets(RECORD, BROKEN).try_keys(rt, &[b"plan-note", b"parish"])?;

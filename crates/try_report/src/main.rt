@@ -49,8 +49,7 @@ fn reports(rt: &impl Print, sheets: &[&[u8]]) -> io::Result<()> {
     for &sheet in sheets {
         println!(rt; "report of {}", Quoted(sheet))?;
         let text = report_text::report(sheet);
-        let bytes = text.bytes;
-        rt.write_all(cut(&bytes, text.len))?;
+        rt.write_all(cut(&text.bytes, text.len))?;
     }
     Ok(())
 }
@@ -63,8 +62,7 @@ fn report_after(rt: &impl Print, sheet: &[u8], answer: Answer) -> io::Result<()>
         Quoted(sheet)
     )?;
     let text = report_text::report_after(sheet, answer);
-    let bytes = text.bytes;
-    rt.write_all(cut(&bytes, text.len))
+    rt.write_all(cut(&text.bytes, text.len))
 }
 
 // Operations done and refused on accepted sheets, and on refused ones.

@@ -1,22 +1,18 @@
 // Tries sheets: each corner of document 01's sheet, refused with its place or accepted with its fields. Prints a line for each.
 #![tactic(auto)]
 
-use settings::Rule;
 use std::alloc::{AllocError, Global};
 use std::io;
-use trial::{NumberAndPlace, Quoted};
+use trial::{NumberAndPlace, Quoted, RuleNumber};
 
 // Reads a sheet, and prints what it yields: its fields, the deed, the first annotation, the last, and one past the last.
 fn read(rt: &impl Print, sheet: &[u8]) -> io::Result<()> {
     let s = sheet::read(sheet);
-    let rule = match s.rule {
-        Rule::One => 1,
-        Rule::Two => 2,
-    };
     let (pins, writes, annotations) = (s.pins, s.write_count, s.annotations);
     print!(rt;
-        ": {} pins {pins:02X} rule {rule}",
-        NumberAndPlace(s.answer)
+        ": {} pins {pins:02X} rule {}",
+        NumberAndPlace(s.answer),
+        RuleNumber(s.rule)
     )?;
     print!(rt;
         " writes {writes} annotations {annotations} deed {}",

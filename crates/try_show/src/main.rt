@@ -2,6 +2,7 @@
 // Prints a line for each call.
 #![tactic(auto)]
 
+use settings::FRAME_LENGTH;
 use std::io;
 use trial::{Answered, Under, cut, lay, mark, put, settings_of, sum, unchanged_from};
 
@@ -153,14 +154,14 @@ const PAIRS_2: [Pair; 4] = [
 fn pair(rt: &impl Print, row: Pair, image: &[u8], font: &[u8]) -> io::Result<()> {
     let (word, pins, rule, strip) = row;
     let mut fetched = [0u8; 6144];
-    let mut frame = [0u8; 49152];
+    let mut frame = [0u8; FRAME_LENGTH];
     let room = strip.min(fetched.len());
     let fetched = &mut fetched[..room];
     let settings = settings_of(word, pins, rule);
     let told = Answered(screen::show(settings, image, font, fetched, &mut frame));
     print!(rt;
         "{}show word {word:04X} pins {pins:02X}: {told}",
-        Under(rule)
+        Under(settings.rule)
     )?;
     println!(rt; ", strip sum {}, frame sum {}", sum(fetched), sum(&frame))
 }

@@ -8,8 +8,7 @@ use native.Mathlib.Omega.{arith}
 use borrow.Author.Tests.{leb-true, leb-false, le-leb, lt-leb, ltb-true, ltb-false}
 use lib.Dec.{leb, ltb}
 use lib.ListN.{length, get_or, take, get_or-eq_default}
-use Rattle.std.specs.Prelude.{Some, None}
-use Rattle.std.specs.Option.{unwrap_or}
+use Rattle.std.specs.Prelude.{Option, Some, None, MatchOption}
 use Rattle.std.specs.List.{fold, position, position_or_len}
 use Rattle.std.proofs.lemmas.List.{get_or-take, length-take-le}
 use Rattle.promises.specs.Choose.{choose}
@@ -88,8 +87,12 @@ unfolding first_where
 first_place p [] = refl
 first_place p (x ∷ xs) = count_by (p x) (first_place p xs)
 
-place_or : (m n t r : ℕ) → m ≤ n → (m ≡ n → t ≡ r) → (m < n → m ≡ r) → unwrap_or (cond (ltb m n) (Some m) None) t ≡ r
-place_or m n t r l f g =
+-- a place, or nothing where it is `none`: so the code has what the promises tell as a number
+abbrev Place : ℕ → Option ℕ → ℕ → Type 0
+Place none o first = MatchOption o (first ≡ none) (λ k. (first ≡ k) × (k < none))
+
+place_by : (m n none first : ℕ) → m ≤ n → (m ≡ n → first ≡ none) → (m < n → (first ≡ m) × (m < none)) → Place none (cond (ltb m n) (Some m) None) first
+place_by m n none first l f g =
     by_test (ltb m n) (λ e. rw e (g (ltb-true m n e))) (λ e. rw e (f (omega (arith, ltb-false m n e))))
 
 -- what is found among the strip's bytes, which are looked at no further than the strip goes
@@ -111,10 +114,13 @@ module _ (look : Look) (strip : List ℕ) where
   low_whole h k l =
       ⊎_elim (λ (m : k < length strip). h k (omega arith)) (λ (m : length strip ≤ k). rw (get_or-eq_default strip 0 {n = k} m)) (lt_or_ge k (length strip))
 
-  all_seen : ((k : ℕ) → k < reach → high k ≡ false) → strip_length look ≡ first_not_valid look (λ (k : ℕ). get_or strip k 0)
-  all_seen h = sym (all_low look (λ (k : ℕ). get_or strip k 0) (low_whole h))
+  abbrev pub first : ℕ
+  first = first_not_valid look (λ (k : ℕ). get_or strip k 0)
 
-  pub none_seen : fold (λ found b. found || leb 128 b) false seen ≡ false → strip_length look ≡ first_not_valid look (λ (k : ℕ). get_or strip k 0)
+  all_seen : ((k : ℕ) → k < reach → high k ≡ false) → first ≡ strip_length look
+  all_seen h = all_low look (λ (k : ℕ). get_or strip k 0) (low_whole h)
+
+  pub none_seen : fold (λ found b. found || leb 128 b) false seen ≡ false → first ≡ strip_length look
   none_seen e = all_seen (λ k l. rw (get_or-take reach strip k 0 l) at ((low_fold false seen e).1 k (rw length_seen l)))
 
   -- the place that the search finds is that of the strip's first high byte
@@ -124,9 +130,9 @@ module _ (look : Look) (strip : List ℕ) where
       ∙ ap (first_where (λ (k : ℕ). leb 128 (get_or seen k 0))) length_seen
       ∙ same_first _ _ reach (λ k l. ap (leb 128) (get_or-take reach strip k 0 l))
 
-  pub found : external look ≡ true → unwrap_or (position (λ b. leb 128 b) seen) (strip_length look) ≡ first_not_valid look (λ (k : ℕ). get_or strip k 0)
+  pub found : external look ≡ true → Place (strip_length look) (position (λ b. leb 128 b) seen) first
   found e =
       let m : ℕ = first_where high reach in
       rw (first_seen, length_seen)
-      (place_or m reach (strip_length look) _ (first_le high reach) (λ q. all_seen (nowhere high reach q))
-      (λ l. sym (first_at high m (strip_length look) (first_before high reach) (first_holds high reach l) (omega arith)) ∙ in_external look (λ (k : ℕ). get_or strip k 0) e))
+      (place_by m reach (strip_length look) first (first_le high reach) (λ q. all_seen (nowhere high reach q))
+      (λ l. (sym (in_external look (λ (k : ℕ). get_or strip k 0) e) ∙ first_at high m (strip_length look) (first_before high reach) (first_holds high reach l) (omega arith), omega arith)))

@@ -12,5 +12,5 @@ pub returns-then-eq : goal.returns-then-eq
 returns-then-eq c =
     let f = c.args.frame.now in
     let e : take frame_length f ≡ c.draw.new.frame = (slice_eq-Decides Decides-eqb _ _ c.eq.result c.eq.ensures).0 c.if-eq.true in
-    sym (drawing_clean c.args.look c.args.strip.now c.args.strip.now f _ _ c.requires.0 c.requires.1 c.requires.2 (omega (arith, length-replicate {A = ℕ} frame_length 0)) c.draw.ensures.frame
+    (drawing_clean c.args.look c.args.strip.now c.args.strip.now f _ _ c.requires.0 c.requires.1 c.requires.2 (omega (arith, length-replicate {A = ℕ} frame_length 0)) c.draw.ensures.frame
     (λ k h. sym (get_or-take frame_length f k 0 h) ∙ ap (λ (x : List ℕ). get_or x k 0) e))

@@ -1,5 +1,5 @@
 -- `back::read_back` reads where no length is refused, and else leaves the strip as it was.
-use Rattle.std.proofs.Common.{rules, ap, sym, ◌∙◌}
+use Rattle.std.proofs.Common.{rules, ap, sym}
 use Rattle.promises.specs.Told.{Told}
 use Rattle.answer.proofs.Answers.{not_done}
 use Rattle.back.proofs.Backs.{length_refused}

@@ -1,5 +1,5 @@
 -- `intake::settings_of`, along the order 11, 10, 1, 4: what is known of the sheet and of its writes at each step.
-use Rattle.std.proofs.Common.{ℕ, ◌≡◌, ◌<◌, ◌^◌, List, take, length, Ok, Err, refl, sym, ap, ◌∙◌, arith}
+use Rattle.std.proofs.Common.{ℕ, ◌≡◌, ◌<◌, ◌^◌, List, take, Ok, Err, refl, sym, ap, ◌∙◌, arith}
 use Rattle.promises.specs.Told.{Told, done}
 use Rattle.promises.specs.Order.{first_of}
 use Rattle.answer.specs.Told.{Answer, told_of}

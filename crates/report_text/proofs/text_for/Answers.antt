@@ -1,7 +1,9 @@
 -- `report_text::text_for` meets its contract: line by line, with room for each, in each of the three cases.
-use Rattle.std.proofs.Common.{ℕ, ◌≤◌, ◌≡◌, List, [], ◌++◌, length, sym, ap, ◌∙◌, arith}
+use Rattle.std.proofs.Common.{ℕ, ◌≤◌, ◌≡◌, true, false, List, [], ◌++◌, length, sym, ap, ◌∙◌, arith}
+use borrow.Author.Tests.{eq-eqb, eqb-true}
 use Rattle.settings.specs.declared.Settings.{Settings}
-use Rattle.answer.specs.Told.{told_of}
+use Rattle.answer.specs.Told.{Answer, told_of}
+use Rattle.answer.proofs.Answers.{not_done}
 use Rattle.grammar.specs.Sheet.{deed_word, eq, nl}
 use Rattle.grammar.specs.Given.{fields_in}
 use Rattle.sheet.proofs.Annotations.{deed_holds}
@@ -44,11 +46,11 @@ annotations-requires-clause-room c =
     let named = deed_left _ _ c.deed.result.now (room_less _ (status_left _ _ c.from.result c.new-text.ensures c.number_line.ensures) (omega arith)) (few c.args.sheet.now (deed_holds _ c.deed.lifetimes _ c.deed.ensures)) c.line.ensures in
     room_left _ _ _ (setting_lines c.args.taken.settings) named c.setting_lines.ensures (omega (arith, settings_long c.args.taken.settings))
 
-pub returns-then-number-eq0 : goal.returns-then-number-eq0
-returns-then-number-eq0 c =
+pub returns-in_default : goal.returns-in_default
+returns-in_default c =
     let s = c.args.sheet.now in
     let t = told_of c.args.answer in
-    let z : t.number ≡ 0 = sym c.number-number.ensures ∙ c.if-number-eq0.true in
+    let z : t.number ≡ 0 = ap (λ (a : Answer). (told_of a).number) c.in_default.is in
     let status = lined _ _ (status_word ++ eq) (decimal t.number) c.number_line.ensures (ap decimal (c.from.ensures ∙ c.number-number.ensures)) in
     let deed = lined _ _ (deed_word ++ eq) (fields_in s).deed c.line.ensures (deed_holds _ c.deed.lifetimes _ c.deed.ensures) in
     let settings = c.setting_lines.ensures ∙ ap (λ (x : Settings). text_of (held c.line.new.self ++ setting_lines x)) (c.requires.settings_value z) in
@@ -59,14 +61,15 @@ returns-then-number-eq0 c =
 pub number_line-requires-2 : goal.number_line-requires-2
 number_line-requires-2 c = room_less _ (status_left _ _ c.from.result c.new-text.ensures c.number_line.ensures) (omega arith)
 
-pub returns-then-number-eq11 : goal.returns-then-number-eq11
-returns-then-number-eq11 c =
+pub returns-then-is_broken : goal.returns-then-is_broken
+returns-then-is_broken c =
     let s = c.args.sheet.now in
     let t = told_of c.args.answer in
+    let broken : t.number ≡ 11 = ap (λ (a : Answer). (told_of a).number) c.in-Err.is ∙ eqb-true _ _ (sym c.is_broken.ensures ∙ c.if-is_broken.true) in
     let status = lined _ _ (status_word ++ eq) (decimal t.number) c.number_line.ensures (ap decimal (c.from.ensures ∙ c.number-number.ensures)) in
-    let place = lined _ _ (place_word ++ eq) (decimal t.place) c.number_line-2.ensures (ap decimal c.place.ensures) in
+    let place = lined _ _ (place_word ++ eq) (decimal t.place) c.number_line-2.ensures (ap decimal (c.place.ensures ∙ sym (ap (λ (a : Answer). (told_of a).place) c.in-Err.is))) in
     grows [] (status_line t ++ place_line t) c.new-text.ensures (grows_on _ _ _ (status_line t) (place_line t) status place)
-    ∙ ap text_of (sym (report_broken t s (λ e. c.if-number-eq0.false (c.number-number.ensures ∙ e)) (sym c.number-number.ensures ∙ c.if-number-eq11.true)))
+    ∙ ap text_of (sym (report_broken t s (λ e. omega (arith, e, broken)) broken))
 
 pub line-requires-2 : goal.line-requires-2
 line-requires-2 c =
@@ -81,9 +84,11 @@ pub returns : goal.returns
 returns c =
     let s = c.args.sheet.now in
     let t = told_of c.args.answer in
+    let number = ap (λ (a : Answer). (told_of a).number) c.in-Err.is in
+    let other : t.number ≡ 11 → ⊥ = λ e. let z : true ≡ false = sym (eq-eqb _ _ (sym number ∙ e)) ∙ sym c.is_broken.ensures ∙ c.if-is_broken.false in cc in
     let status = lined _ _ (status_word ++ eq) (decimal t.number) c.number_line.ensures (ap decimal (c.from.ensures ∙ c.number-number.ensures)) in
-    let place = lined _ _ (place_word ++ eq) (decimal t.place) c.number_line-2.ensures (ap decimal c.place.ensures) in
+    let place = lined _ _ (place_word ++ eq) (decimal t.place) c.number_line-2.ensures (ap decimal (c.place.ensures ∙ sym (ap (λ (a : Answer). (told_of a).place) c.in-Err.is))) in
     let deed = lined _ _ (deed_word ++ eq) (fields_in s).deed c.line-2.ensures (deed_holds _ c.deed-2.lifetimes _ c.deed-2.ensures) in
     grows [] (status_line t ++ (place_line t ++ (deed_printed s ++ annotated s))) c.new-text.ensures
     (grows_on _ _ _ (status_line t) _ status (grows_on _ _ _ (place_line t) _ place (grows_on _ _ _ (deed_printed s) (annotated s) deed c.annotations-2.ensures)))
-    ∙ ap text_of (sym (report_refused t s (λ e. c.if-number-eq0.false (c.number-number.ensures ∙ e)) (λ e. c.if-number-eq11.false (c.number-number.ensures ∙ e))))
+    ∙ ap text_of (sym (report_refused t s (λ e. not_done c.in-Err.refusal (sym number ∙ e)) other))

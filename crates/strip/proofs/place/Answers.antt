@@ -6,4 +6,4 @@ pub overflow_sub-result : goal.overflow_sub-result
 overflow_sub-result c = size_some c.args.settings c.args.size c.requires.0
 
 pub returns : goal.returns
-returns c = place_masked c.args.settings c.args.size c.requires.0 c.args.address c.requires.1
+returns c = rw c.from.ensures (place_masked c.args.settings c.args.size c.requires.0 c.args.address c.requires.1)

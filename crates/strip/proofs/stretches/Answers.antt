@@ -1,5 +1,5 @@
 -- `stretches`: each stretch lies within the image and its lines within the strip, and after the last of them the frame is whole.
-use Rattle.std.proofs.Common.{◌≡◌, ℕ, ◌+◌, ◌*◌, ◌/◌, ◌%◌, ◌≤◌, ◌⊎◌, List, length, sym, ap, ◌∙◌, subst, arith}
+use Rattle.std.proofs.Common.{◌≡◌, ℕ, ◌+◌, ◌*◌, ◌/◌, ◌%◌, ◌≤◌, ◌⊎◌, List, length, refl, sym, ap, ◌∙◌, subst, arith}
 use native.Mathlib.Nat.{mul-mod_left}
 use Rattle.promises.specs.Written.{Filled}
 use Rattle.promises.proofs.Fills.{upto}
@@ -70,7 +70,7 @@ repeat_line-requires c =
 pub loop-n-preserved : goal.loop-n-preserved
 loop-n-preserved c =
     next_stretch c.args.settings c.requires.3 c.args.image.now c.width-wide.ensures c.line_lasts-lasts.ensures c.place-from.ensures c.line_step-step.ensures
-    c.loop-n.invariant c.loop-n-test.true c.read_line-touched.ensures.filled c.repeat_line.ensures c.wrapping_add_u16-address.ensures.value (ap (λ (k : ℕ). c.loop-n.touched + k) c.read_line-touched.ensures.value)
+    c.loop-n.invariant c.loop-n-test.true c.read_line-touched.ensures.filled c.repeat_line.ensures refl (ap (λ (k : ℕ). c.loop-n.touched + k) c.read_line-touched.ensures.value)
 
 pub returns-clause-value : goal.returns-clause-value
 returns-clause-value c = all_read c.args.settings c.args.image.now c.loop-n.invariant c.loop-n-test.false

@@ -1,9 +1,9 @@
 -- `transpose::transposed`: past the answer k and the length suit each other and the room is long enough.
-use Rattle.std.proofs.Common.{ℕ, ◌≡◌, true, ◌≤◌, length, ◌∙◌, sym, subst, refl, arith}
+use Rattle.std.proofs.Common.{ℕ, length, subst, refl, arith}
 use Rattle.promises.specs.Written.{Filled}
 use Rattle.promises.proofs.Fills.{filled_written}
 use Rattle.answer.proofs.Answers.{not_done}
-use Rattle.transpose.specs.Chip.{chip_fits, transposed_byte}
+use Rattle.transpose.specs.Chip.{transposed_byte}
 use Rattle.transpose.proofs.Shapes.{shape, side_is, whole_banks}
 use Rattle.transpose.proofs.Answers.{done_suits, room_told, room_kept}
 use Rattle.transpose.proofs.transposed.Goals as goal

@@ -1,8 +1,7 @@
--- `glyph`: how many rows are put.
-use Rattle.std.proofs.Common.{ℕ, ◌+◌, ◌/◌, ◌%◌}
-use Rattle.promises.specs.Written.{Filled}
+-- `glyph`: the rows so far.
+use Rattle.std.proofs.Common.{◌≡◌, ℕ, ◌<◌, get_or}
 use Rattle.pixel.specs.Text.{lit}
 use Rattle.frame.proofs.letters.Font.glyph.Given as goal
 
 abbrev pub invariant-loop-row : goal.invariant-loop-row
-invariant-loop-row l = Filled (λ (n : ℕ). lit l.self.look l.self.patterns.now (n / 12) (n % 12)) l.at (l.at + l.row) l.initial.rows l.rows
+invariant-loop-row l = (k : ℕ) → k < l.row → get_or l.dots-items k 0 ≡ lit l.self.look l.self.patterns.now l.b k

@@ -1,9 +1,0 @@
--- `report::print` writes no more than the text's place holds: every report fits it.
-use Rattle.report_text.proofs.Fits.{text_within, text_held}
-use Rattle.report.proofs.print.Goals as goal
-
-pub slice_bounds-bytes-end : goal.slice_bounds-bytes-end
-slice_bounds-bytes-end g c = text_within _ _ c.report-text.result c.report-text.ensures
-
-pub slice_bounds-write_all-end : goal.slice_bounds-write_all-end
-slice_bounds-write_all-end g c = text_held _ _ c.report-text.result c.report-text.ensures
