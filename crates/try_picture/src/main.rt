@@ -3,7 +3,7 @@
 
 use answer::Answer;
 use std::{fmt, io};
-use trial::{Answered, cut, mark, put, sum, unchanged_from};
+use trial::{Answered, Output, cut, mark, put, sum, unchanged_from};
 
 // Puts varied pixels everywhere: those of a line differ from those above and below.
 fn vary(s: &mut [u8]) {
@@ -184,6 +184,7 @@ fn decode(rt: &impl Print, made: File, size: usize, frame: &[u8]) -> io::Result<
 
 // Pictures of a varied frame, refusals, and files read.
 fn main(rt: HostRuntime) -> io::Result<()> {
+    let rt = Output { rt };
     let frame = varied();
     pictures(&rt, &frame)?;
     refusals(&rt, &frame)?;
