@@ -130,6 +130,7 @@ fn make<'a>(
 }
 
 // Copies a record, or prints the report of a refused one: the sheet's own refusal, or what came after it.
+#[inline(never)]
 fn copy(
     rt: &(impl Files<File = File> + Print + Eprint),
     sheet: &[u8],
@@ -163,7 +164,39 @@ fn read_font<'a>(
     }
 }
 
-// Each file is read with a byte more than the longest that can be accepted: what lies past that changes nothing.
+// Each file is read with a byte more than the longest that can be accepted: what lies past that changes nothing. Each has its room in a
+// function of its own that is called, so that there is room for a file only once the file before it is read.
+
+// Copies a record with the font that is named.
+#[inline(never)]
+fn with_font(
+    rt: &(impl Files<File = File> + Print + Eprint),
+    sheet: &[u8],
+    image: &[u8],
+    font: &[u8],
+    name: &[u8],
+) -> Result<(), Failure> {
+    let mut room = [0u8; 4096];
+    let font = read_font(rt, font, &mut room)?;
+    copy(rt, sheet, image, font, name)
+}
+
+// Copies a record with the image that is named.
+#[inline(never)]
+fn with_image(
+    rt: &(impl Files<File = File> + Print + Eprint),
+    sheet: &[u8],
+    image: &[u8],
+    font: &[u8],
+    name: &[u8],
+) -> Result<(), Failure> {
+    let mut room = [0u8; 65537];
+    let image = files::read(rt, WHO, image, &mut room)?;
+    with_font(rt, sheet, image, font, name)
+}
+
+// Copies the record of the sheet that is named.
+#[inline(never)]
 fn by_names(
     rt: &(impl Files<File = File> + Print + Eprint),
     sheet: &[u8],
@@ -171,13 +204,9 @@ fn by_names(
     font: &[u8],
     name: &[u8],
 ) -> Result<(), Failure> {
-    let mut sheet_room = [0u8; 28160];
-    let mut image_room = [0u8; 65537];
-    let mut font_room = [0u8; 4096];
-    let sheet = files::read(rt, WHO, sheet, &mut sheet_room)?;
-    let image = files::read(rt, WHO, image, &mut image_room)?;
-    let font = read_font(rt, font, &mut font_room)?;
-    copy(rt, sheet, image, font, name)
+    let mut room = [0u8; 28160];
+    let sheet = files::read(rt, WHO, sheet, &mut room)?;
+    with_image(rt, sheet, image, font, name)
 }
 
 // Copies the record of four arguments; a fifth is enough to see that there are too many.
