@@ -3,8 +3,8 @@
 
 use arrayvec::ArrayVec;
 use std::io;
-use std::io::Write;
-use trial::{NumberAndPlace, Output, Quoted, RuleNumber};
+use std::io::{Cursor, Write};
+use trial::{NumberAndPlace, Output, Quoted, RuleNumber, cut};
 
 // Reads a sheet, and prints what it yields: its fields, the deed, the first annotation, the last, and one past the last.
 fn read(rt: &impl Print, sheet: &[u8]) -> io::Result<()> {
@@ -121,7 +121,7 @@ struct Long<'a> {
 }
 
 // Appends a piece some times, as far as there is room.
-fn append<const ROOM: usize>(sheet: &mut ArrayVec<u8, ROOM>, piece: &[u8], count: usize) {
+fn append(sheet: &mut impl Write, piece: &[u8], count: usize) {
     for _ in 0..count {
         let _ = sheet.write(piece);
     }
@@ -138,20 +138,22 @@ impl Long<'_> {
         line
     }
 
-    // Its bytes. The longest sheet that is tried has 28,159.
-    fn bytes(self) -> ArrayVec<u8, 28160> {
+    // Puts its bytes at the start of a buffer, and hands back how many they are.
+    fn lay(self, buffer: &mut [u8]) -> usize {
         let line = self.line();
-        let mut sheet = ArrayVec::new();
+        let mut sheet = Cursor::new(buffer);
         append(&mut sheet, self.head, 1);
         append(&mut sheet, b"at=FFC1\n", self.writes);
         append(&mut sheet, &line, self.lines);
         append(&mut sheet, b"a", self.more);
-        sheet
+        sheet.position() as usize
     }
 
-    // Prints what it is, and what it yields.
+    // Prints what it is, and what it yields. The longest that is tried has 28,159 bytes.
     fn read(self, rt: &impl Print) -> io::Result<()> {
-        let sheet = self.bytes();
+        let mut buffer = [0u8; 28160];
+        let len = self.lay(&mut buffer);
+        let sheet = cut(&buffer, len);
         print!(rt;
             "writes {}, {} lines with keys of {} and values of {}, {} more, {} bytes",
             self.writes,
@@ -161,7 +163,7 @@ impl Long<'_> {
             self.more,
             sheet.len()
         )?;
-        read(rt, &sheet)
+        read(rt, sheet)
     }
 }
 
