@@ -12,7 +12,6 @@ use lib.ListN.{length, take, drop, length-append, length-drop}
 use lib.Seq.{take_all}
 use Rattle.std.proofs.Common.{Some, None, cond, nat_lt, ◌==◌}
 use Rattle.std.specs.List.{list_any, position, position_or_len, prefix_len, zip}
-use Rattle.std.specs.Cmp.Lexicographic.{pointwise}
 use Rattle.std.specs.Option.{unwrap_or}
 use Rattle.std.proofs.lemmas.Bool.Decides.{nat_tests}
 use Rattle.promises.specs.Choose.{choose}
@@ -21,7 +20,7 @@ use Rattle.text.specs.Combine.{All}
 use Rattle.text.specs.Hex.{between}
 use Rattle.text.proofs.Tests.{clash, between_le}
 use Rattle.grammar.specs.Sheet.{key_byte, value_byte, eq, nl, same, Annotation, ValidAnnotation, line}
-use Rattle.lookup.specs.Steps.{to_line_end, keyed_by, alike}
+use Rattle.lookup.specs.Steps.{to_line_end, keyed_by, alike, equals_first}
 
 -- ---- what an annotation is made of
 -- a byte of a key is neither `=` nor a line end
@@ -95,11 +94,7 @@ end_found s = or_len (position_or_len (λ b. b == 10) s) (length s) (rw (end_pos
 
 -- a line has the key where they go alike to the key's end, and an `=` follows there
 abbrev pub equals_behind : ℕ → List ℕ → Bool
-equals_behind n s = pointwise eqb (61 ∷ []) (take 1 (drop n s))
-
-alone : (b : ℕ) (t : Bool) → eqb b 61 ≡ t → t ≡ (eqb 61 b && true)
-alone b true e = rw (eq-eqb 61 b (sym (eqb-true b 61 e)))
-alone b false e = rw (ne_eqb 61 b (λ q. eqb-false b 61 e (sym q)))
+equals_behind n s = equals_first (drop n s)
 
 none : (n : ℕ) → eqb 0 (suc n) ≡ false
 none n = ne_eqb 0 (suc n) (λ e. omega (arith, e))
@@ -110,7 +105,7 @@ each n m false e = ne_eqb (suc n) (suc m) (λ q. eqb-false n m e (omega (arith, 
 
 pub key_alike : (k s : List ℕ) → eqb (alike k s) (length k) && equals_behind (alike k s) s ≡ keyed_by k s
 key_alike [] [] = refl
-key_alike [] (b ∷ s) = sym (alone b (eqb b 61) refl)
+key_alike [] (b ∷ s) = refl
 key_alike (c ∷ k) [] = ap (λ (t : Bool). t && equals_behind 0 []) (none (length k))
 key_alike (c ∷ k) (b ∷ s) = go (eqb b 61) (eqb b c) (key_alike k s)
   where
@@ -132,8 +127,8 @@ module _ (k s : List ℕ) (n : ℕ) (e : n ≡ alike k s) where
   left : take (length s - n) (drop n s) ≡ drop n s
   left = take_all (length s - n) (drop n s) (omega (arith, length-drop n s))
 
-  pub key_there : (t : Bool) → n ≡ length k → t ≡ pointwise eqb (61 ∷ []) (take 1 (take (length s - n) (drop n s))) → t ≡ keyed_by k s
-  key_there t h f = f ∙ ap (λ (r : List ℕ). pointwise eqb (61 ∷ []) (take 1 r)) left ∙ there true (eq-eqb n (length k) h)
+  pub key_there : (t : Bool) → n ≡ length k → t ≡ equals_first (take (length s - n) (drop n s)) → t ≡ keyed_by k s
+  key_there t h f = f ∙ ap equals_first left ∙ there true (eq-eqb n (length k) h)
 
   pub key_other : (n ≡ length k → ⊥) → eqb n (length k) ≡ keyed_by k s
   key_other h = let m = ne_eqb n (length k) h in m ∙ there false m

@@ -21,6 +21,11 @@ keyed_by [] (b ∷ s) = eqb b 61
 keyed_by (c ∷ k) [] = false
 keyed_by (c ∷ k) (b ∷ s) = not (eqb b 61) && (eqb b c && keyed_by k s)
 
+-- whether an `=` stands first
+abbrev pub equals_first : List ℕ → Bool
+equals_first [] = false
+equals_first (b ∷ s) = eqb b 61
+
 -- how many bytes the key and what stands before the first `=` begin with alike
 abbrev pub alike : List ℕ → List ℕ → ℕ
 alike [] s = 0

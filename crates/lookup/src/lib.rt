@@ -6,7 +6,7 @@ ghost use Rattle.std.specs.List.{list_any};
 ghost use Rattle.answer.specs.Told.{told_of};
 ghost use Rattle.grammar.specs.Given.{accepted, tail_from};
 ghost use Rattle.lookup.specs.Lookup.{holder_told, held, HeldPart};
-ghost use Rattle.lookup.specs.Steps.{to_line_end, keyed_by, alike, found_in, LinesFrom, Finds};
+ghost use Rattle.lookup.specs.Steps.{to_line_end, keyed_by, alike, equals_first, found_in, LinesFrom, Finds};
 
 use answer::{Answer, Refusal};
 use scan::Span;
@@ -53,12 +53,19 @@ fn alike(line: &[u8], key: &[u8]) -> usize
         .count()
 }
 
+// Whether an `=` stands first.
+fn equals_first(rest: &[u8]) -> bool
+    ensures { result ≡ equals_first rest.now }
+{
+    matches!(rest, [b'=', ..])
+}
+
 // Whether a line has the key: its own key is this one, whole. No more than that is compared, whatever else the key begins like.
 fn has_key(line: &[u8], key: &[u8]) -> bool
     ensures { result ≡ keyed_by key.now line.now }
 {
     let same = alike(line, key);
-    same == key.len() && line[same..].starts_with(b"=")
+    same == key.len() && equals_first(&line[same..])
 }
 
 // The first value under the key in an accepted sheet, the annotation lines beginning at `from`.
