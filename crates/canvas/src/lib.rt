@@ -22,8 +22,13 @@ impl Side {
     fn clip(z: i16, n: usize, edge: usize) -> Side
         ensures { result ≡ side_of z n edge }
     {
-        let cut = usize::from(z.min(0).unsigned_abs());
-        let start = usize::from(z.max(0).unsigned_abs());
+        // Widened first, since -32,768 has no opposite in 16 bits.
+        let wide = i32::from(z);
+        let (cut, start) = if wide < 0 {
+            ((-wide) as usize, 0)
+        } else {
+            (0, wide as usize)
+        };
         let kept = n.saturating_sub(cut).min(edge.saturating_sub(start));
         Side { cut, start, kept }
     }

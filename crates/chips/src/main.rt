@@ -2,7 +2,6 @@
 #![tactic(auto)]
 
 use answer::Answer;
-use std::alloc::AllocError;
 use std::rt::Env;
 
 // The longest argument that is looked at.
@@ -71,18 +70,24 @@ fn cross_to(rt: &(impl Input + Print + Eprint), k: usize, word: &[u8]) {
 }
 
 // Crosses by two arguments; a third is enough to see that there are too many.
-fn run(rt: &(impl Env + Input + Print + Eprint + AllocGlobal)) -> Result<(), AllocError> {
-    let given = files::arguments(rt, 3, LONGEST)?;
-    if let [pins, word] = given.as_slice()
+fn run(rt: &(impl Env + Input + Print + Eprint)) {
+    let mut pins = [0u8; LONGEST];
+    let mut word = [0u8; LONGEST];
+    let mut more = [0u8; 1];
+    let given = [
+        files::argument(rt, 1, &mut pins),
+        files::argument(rt, 2, &mut word),
+        files::argument(rt, 3, &mut more),
+    ];
+    if let [Some(pins), Some(word), None] = given
         && let Some(k) = pins_in(pins)
     {
         cross_to(rt, k, word);
-        return Ok(());
+        return;
     }
     explain(rt);
-    Ok(())
 }
 
-fn main(rt: HostRuntime) -> Result<(), AllocError> {
-    run(&rt)
+fn main(rt: HostRuntime) {
+    run(&rt);
 }

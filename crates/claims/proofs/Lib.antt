@@ -2,6 +2,7 @@
 pub mod Figures
 pub mod Operations
 pub mod Calls
+pub mod Chains
 pub mod Demand1
 pub mod Demand2
 pub mod Demand3

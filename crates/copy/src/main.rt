@@ -2,12 +2,13 @@
 #![tactic(auto)]
 
 use answer::Refusal;
+use arrayvec::ArrayVec;
 use files::{Failure, LONGEST_PATH};
 use picture::FILE_LENGTH;
 use report_text::Text;
 use settings::FRAME_LENGTH;
-use std::alloc::AllocError;
 use std::fs::File;
+use std::io::Write;
 use std::rt::{Env, Files};
 
 // How each sentence on standard error begins.
@@ -16,27 +17,27 @@ const WHO: &str = "copy";
 // The files: NAME is the fourth argument, and what each file is stands behind it.
 #[derive(Drop)]
 struct Paths {
-    strip: Vec<u8>,
-    png: Vec<u8>,
-    report: Vec<u8>,
+    strip: ArrayVec<u8, LONGEST_PATH>,
+    png: ArrayVec<u8, LONGEST_PATH>,
+    report: ArrayVec<u8, LONGEST_PATH>,
 }
 
-// The path of one file. One that is cut here has as many bytes as the system takes in no path.
-fn path(rt: &impl AllocGlobal, name: &[u8], suffix: &[u8]) -> Result<Vec<u8>, AllocError> {
-    let mut path = name.to_vec(rt.alloc())?;
-    path.extend_from_slice(suffix)?;
-    path.truncate(LONGEST_PATH);
-    Ok(path)
+// The path of one file, as much of it as there is room for. One that is cut here has as many bytes as the system takes in no path.
+fn path(name: &[u8], suffix: &[u8]) -> ArrayVec<u8, LONGEST_PATH> {
+    let mut path = ArrayVec::new();
+    let _ = path.write(name);
+    let _ = path.write(suffix);
+    path
 }
 
 impl Paths {
     // The paths of a copy by its name.
-    fn of(rt: &impl AllocGlobal, name: &[u8]) -> Result<Paths, AllocError> {
-        Ok(Paths {
-            strip: path(rt, name, b".strip")?,
-            png: path(rt, name, b".png")?,
-            report: path(rt, name, b".report")?,
-        })
+    fn of(name: &[u8]) -> Paths {
+        Paths {
+            strip: path(name, b".strip"),
+            png: path(name, b".png"),
+            report: path(name, b".report"),
+        }
     }
 }
 
@@ -48,18 +49,14 @@ fn check_free(rt: &(impl Files + Eprint), paths: &Paths) -> Result<(), Failure> 
 }
 
 // Removes a file that was made before another failed.
-fn undo(
-    rt: &(impl Files + Eprint + AllocGlobal),
-    path: &[u8],
-    failure: Failure,
-) -> Result<(), Failure> {
+fn undo(rt: &(impl Files + Eprint), path: &[u8], failure: Failure) -> Result<(), Failure> {
     files::remove(rt, WHO, path)?;
     Err(failure)
 }
 
 // Makes the picture and the report behind the strip; where one of them fails, what was made before it is removed.
 fn keep_rest(
-    rt: &(impl Files<File = File> + Eprint + AllocGlobal),
+    rt: &(impl Files<File = File> + Eprint),
     paths: &Paths,
     png: &[u8],
     report: &[u8],
@@ -72,7 +69,7 @@ fn keep_rest(
 
 // Makes all three, the report last: a copy without its report is not whole.
 fn keep_all(
-    rt: &(impl Files<File = File> + Eprint + AllocGlobal),
+    rt: &(impl Files<File = File> + Eprint),
     paths: &Paths,
     strip: &[u8],
     png: &[u8],
@@ -99,7 +96,7 @@ fn print(rt: &(impl Print + Eprint), report: &[u8]) {
 
 // Keeps what was made of an accepted record, and prints its report once all of it is on the disk.
 fn finish(
-    rt: &(impl Files<File = File> + Print + Eprint + AllocGlobal),
+    rt: &(impl Files<File = File> + Print + Eprint),
     name: &[u8],
     sheet: &[u8],
     strip: &[u8],
@@ -107,7 +104,7 @@ fn finish(
 ) -> Result<(), Failure> {
     let text = report_text::report(sheet);
     let report = bytes_of(&text);
-    let paths = Paths::of(rt, name)?;
+    let paths = Paths::of(name);
     check_free(rt, &paths)?;
     keep_all(rt, &paths, strip, png, report)?;
     print(rt, report);
@@ -133,8 +130,9 @@ fn make<'a>(
 }
 
 // Copies a record, or prints the report of a refused one: the sheet's own refusal, or what came after it.
+#[inline(never)]
 fn copy(
-    rt: &(impl Files<File = File> + Print + Eprint + AllocGlobal),
+    rt: &(impl Files<File = File> + Print + Eprint),
     sheet: &[u8],
     image: &[u8],
     font: &[u8],
@@ -156,7 +154,7 @@ fn copy(
 
 // Reads the font, which is `-` where none is needed.
 fn read_font<'a>(
-    rt: &(impl Files<File = File> + Eprint + AllocGlobal),
+    rt: &(impl Files<File = File> + Eprint),
     path: &[u8],
     room: &'a mut [u8],
 ) -> Result<&'a [u8], Failure> {
@@ -166,28 +164,69 @@ fn read_font<'a>(
     }
 }
 
-// Each file is read with a byte more than the longest that can be accepted: what lies past that changes nothing.
-fn by_names(
-    rt: &(impl Files<File = File> + Print + Eprint + AllocGlobal),
+// Each file is read with a byte more than the longest that can be accepted: what lies past that changes nothing. Each has its room in a
+// function of its own that is called, so that there is room for a file only once the file before it is read.
+
+// Copies a record with the font that is named.
+#[inline(never)]
+fn with_font(
+    rt: &(impl Files<File = File> + Print + Eprint),
     sheet: &[u8],
     image: &[u8],
     font: &[u8],
     name: &[u8],
 ) -> Result<(), Failure> {
-    let mut sheet_room = [0u8; 28160];
-    let mut image_room = [0u8; 65537];
-    let mut font_room = [0u8; 4096];
-    let sheet = files::read(rt, WHO, sheet, &mut sheet_room)?;
-    let image = files::read(rt, WHO, image, &mut image_room)?;
-    let font = read_font(rt, font, &mut font_room)?;
+    let mut room = [0u8; 4096];
+    let font = read_font(rt, font, &mut room)?;
     copy(rt, sheet, image, font, name)
 }
 
+// Copies a record with the image that is named.
+#[inline(never)]
+fn with_image(
+    rt: &(impl Files<File = File> + Print + Eprint),
+    sheet: &[u8],
+    image: &[u8],
+    font: &[u8],
+    name: &[u8],
+) -> Result<(), Failure> {
+    let mut room = [0u8; 65537];
+    let image = files::read(rt, WHO, image, &mut room)?;
+    with_font(rt, sheet, image, font, name)
+}
+
+// Copies the record of the sheet that is named.
+#[inline(never)]
+fn by_names(
+    rt: &(impl Files<File = File> + Print + Eprint),
+    sheet: &[u8],
+    image: &[u8],
+    font: &[u8],
+    name: &[u8],
+) -> Result<(), Failure> {
+    let mut room = [0u8; 28160];
+    let sheet = files::read(rt, WHO, sheet, &mut room)?;
+    with_image(rt, sheet, image, font, name)
+}
+
 // Copies the record of four arguments; a fifth is enough to see that there are too many.
-fn run(rt: &(impl Env + Files<File = File> + Print + Eprint + AllocGlobal)) -> Result<(), Failure> {
-    let given = files::arguments(rt, 5, LONGEST_PATH)?;
-    match given.as_slice() {
-        [sheet, image, font, name] if !name.is_empty() => by_names(rt, sheet, image, font, name),
+fn run(rt: &(impl Env + Files<File = File> + Print + Eprint)) -> Result<(), Failure> {
+    let mut sheet = [0u8; LONGEST_PATH];
+    let mut image = [0u8; LONGEST_PATH];
+    let mut font = [0u8; LONGEST_PATH];
+    let mut name = [0u8; LONGEST_PATH];
+    let mut more = [0u8; 1];
+    let given = [
+        files::argument(rt, 1, &mut sheet),
+        files::argument(rt, 2, &mut image),
+        files::argument(rt, 3, &mut font),
+        files::argument(rt, 4, &mut name),
+        files::argument(rt, 5, &mut more),
+    ];
+    match given {
+        [Some(sheet), Some(image), Some(font), Some(name), None] if !name.is_empty() => {
+            by_names(rt, sheet, image, font, name)
+        }
         _ => {
             let _ = eprintln!(rt;
                 "copy: give SHEET IMAGE FONT NAME; FONT is - where no font is needed"
@@ -197,10 +236,7 @@ fn run(rt: &(impl Env + Files<File = File> + Print + Eprint + AllocGlobal)) -> R
     }
 }
 
-// What failed of a file has been told; only a lack of memory is left to say.
-fn main(rt: HostRuntime) -> Result<(), AllocError> {
-    match run(&rt) {
-        Ok(()) | Err(Failure::Told) => Ok(()),
-        Err(Failure::OutOfMemory(error)) => Err(error),
-    }
+// What failed of a file has been told.
+fn main(rt: HostRuntime) {
+    let _ = run(&rt);
 }

@@ -6,5 +6,5 @@
 mod reading;
 mod writing;
 
-pub use reading::{Failure, LONGEST_PATH, arguments, read, read_input};
+pub use reading::{Failure, LONGEST_PATH, argument, read, read_input};
 pub use writing::{check_free, remove, write_new};

@@ -1,8 +1,9 @@
 // Reads arguments, whole files and standard input, and says in a sentence which file cannot be read.
-ghost use Rattle.std.specs.Prelude.{◌≡◌, ◌≤◌, length, vec_len, All, IfOk, IfSome, OnOk, IsUtf8};
+ghost use Rattle.std.specs.Prelude.{◌≡◌, ◌≤◌, length, IfOk, IfSome, OnOk, IsUtf8};
 
-use std::alloc::AllocError;
+use arrayvec::ArrayString;
 use std::env::FillError;
+use std::fmt::Write;
 use std::fs::File;
 use std::io::{Error, ErrorKind, Read, Result as IoResult};
 use std::os::fd::AsRawFd;
@@ -16,54 +17,19 @@ const STDIN_FILENO: i32 = 0;
 
 const STDERR_FILENO: i32 = 2;
 
-// Why a program stops before its work is done. What each `main` makes of it is kept in each: because one function for all would take no
-// handle, and so be one more to fix in the claims' list.
+// Why a program stops before its work is done: what failed has been said on standard error.
 #[derive(Clone, Copy)]
-pub enum Failure {
-    // What failed has been said on standard error.
-    Told,
-    OutOfMemory(AllocError),
-}
+pub struct Failure;
 
-impl From<AllocError> for Failure {
-    fn from(error: AllocError) -> Failure {
-        Failure::OutOfMemory(error)
-    }
-}
-
-// An argument, empty where it has more bytes than are wanted.
-fn argument(
-    rt: &(impl Env + AllocGlobal),
-    i: usize,
-    most: usize,
-) -> Result<Option<Vec<u8>>, AllocError>
-    ensures { IfOk result (λ found. IfSome found (λ bytes. vec_len bytes ≤ most)) }
+// Reads the argument of that number, where there is one, and lends it. One that has more bytes than there is room for is empty.
+pub fn argument<'a>(rt: &impl Env, i: usize, room: &'a mut [u8]) -> Option<&'a [u8]>
+    ensures { IfSome result (λ bytes. length bytes.now ≤ length room.old) }
 {
-    let mut bytes = vec![in rt.alloc(); 0u8; most]?;
-    match rt.arg(i, bytes.as_mut_slice()) {
-        Ok(n) => bytes.truncate(n),
-        Err(FillError::TooLong) => bytes.clear(),
-        Err(FillError::NotPresent) => return Ok(None),
+    match rt.arg(i, room) {
+        Ok(n) => Some(&room[..n]),
+        Err(FillError::TooLong) => Some(&room[..0]),
+        Err(FillError::NotPresent) => None,
     }
-    Ok(Some(bytes))
-}
-
-// The arguments behind the program's name, at most `count` of them. One of more than `most` bytes is empty.
-pub fn arguments(
-    rt: &(impl Env + AllocGlobal),
-    count: usize,
-    most: usize,
-) -> Result<Vec<Vec<u8>>, AllocError>
-    ensures { IfOk result (λ given. All (λ bytes. vec_len bytes ≤ most) given.items) }
-{
-    let mut given = Vec::new(rt.alloc());
-    for i in 0..count {
-        match argument(rt, i + 1, most)? {
-            Some(bytes) => given.push(bytes)?,
-            None => break,
-        }
-    }
-    Ok(given)
 }
 
 // A path as std takes it, which is text.
@@ -93,31 +59,18 @@ fn reason(text: &str) -> &str {
     }
 }
 
-// The same with the system's reason.
-fn say_error(
-    rt: &(impl Eprint + AllocGlobal),
-    who: &str,
-    what: &str,
-    path: &[u8],
-    error: &Error,
-) -> Result<(), AllocError> {
-    let text = format!(in rt.alloc(); "{error}")?;
-    say(rt, who, what, path, reason(text.as_str()));
-    Ok(())
-}
-
-// Says it, and answers the failure that is told.
+// Says it with the system's reason, and answers the failure that is told. The text of every error has room here.
 pub(crate) fn complain(
-    rt: &(impl Eprint + AllocGlobal),
+    rt: &impl Eprint,
     who: &str,
     what: &str,
     path: &[u8],
     error: &Error,
 ) -> Failure {
-    match say_error(rt, who, what, path, error) {
-        Ok(()) => Failure::Told,
-        Err(error) => Failure::OutOfMemory(error),
-    }
+    let mut text = ArrayString::<512>::new();
+    let _ = write!(text, "{error}");
+    say(rt, who, what, path, reason(text.as_str()));
+    Failure
 }
 
 // Reads as far as there is room, and lends what was read. One read more then answers 0, and an error where it cannot be read.
@@ -147,7 +100,7 @@ fn open_and_fill<'a>(
 
 // Reads a file, as far as there is room, and lends what was read.
 pub fn read<'a>(
-    rt: &(impl Files<File = File> + Eprint + AllocGlobal),
+    rt: &(impl Files<File = File> + Eprint),
     who: &str,
     path: &[u8],
     room: &'a mut [u8],

@@ -34,11 +34,7 @@ fn unlink(rt: &impl Files, path: &[u8]) -> IoResult<()>
 }
 
 // Removes a file that was made.
-pub fn remove(
-    rt: &(impl Files + Eprint + AllocGlobal),
-    who: &str,
-    path: &[u8],
-) -> Result<(), Failure>
+pub fn remove(rt: &(impl Files + Eprint), who: &str, path: &[u8]) -> Result<(), Failure>
     ensures { OnOk result (IsUtf8 path.now) }
 {
     unlink(rt, path).map_err(|error| complain(rt, who, "cannot remove", path, &error))
@@ -57,7 +53,7 @@ pub fn check_free(rt: &(impl Files + Eprint), who: &str, path: &[u8]) -> Result<
 {
     if taken(rt, path) {
         say(rt, who, "cannot write", path, "it is there already");
-        return Err(Failure::Told);
+        return Err(Failure);
     }
     Ok(())
 }
@@ -80,7 +76,7 @@ fn put_new(rt: &impl Files<File = File>, file: File, path: &[u8], bytes: &[u8]) 
 
 // Makes a file that was not there, with these bytes, and flushes it and its folder to the disk. Where that fails it is removed.
 pub fn write_new(
-    rt: &(impl Files<File = File> + Eprint + AllocGlobal),
+    rt: &(impl Files<File = File> + Eprint),
     who: &str,
     path: &[u8],
     bytes: &[u8],

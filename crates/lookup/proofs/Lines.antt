@@ -1,5 +1,5 @@
 -- An annotation's line by its bytes: where it ends, which key it has, and what one byte more says in the loops that look for both.
-use Prim.Native.Nat.{ℕ, zero, suc, ◌+◌, ◌≤◌}
+use Prim.Native.Nat.{ℕ, zero, suc, ◌+◌, ◌-◌, ◌≤◌}
 use native.Mathlib.Nat.{le_of_suc-le-suc}
 use native.Mathlib.Omega.{arith}
 use mathlib.Core.Path.{◌≡◌, refl, sym, ◌∙◌, ap}
@@ -8,18 +8,19 @@ use mathlib.Core.Bool.{Bool, true, false, not, ◌&&◌, ◌||◌}
 use mathlib.Core.Logic.{⊎_elim}
 use borrow.Author.Tests.{eq-eqb, ne_eqb, eqb-true, eqb-false, not-true}
 use lib.Dec.{eqb, leb, ltb}
-use lib.ListN.{length, take, drop, length-append}
+use lib.ListN.{length, take, drop, length-append, length-drop}
+use lib.Seq.{take_all}
 use Rattle.std.proofs.Common.{Some, None, cond, nat_lt, ◌==◌}
-use Rattle.std.specs.List.{list_any, position, position_or_len}
-use Rattle.std.specs.Cmp.Lexicographic.{pointwise}
+use Rattle.std.specs.List.{list_any, position, position_or_len, prefix_len, zip}
 use Rattle.std.specs.Option.{unwrap_or}
 use Rattle.std.proofs.lemmas.Bool.Decides.{nat_tests}
-use Rattle.promises.proofs.Choices.{either, both_pass, and_false, of_both}
+use Rattle.promises.specs.Choose.{choose}
+use Rattle.promises.proofs.Choices.{either, both_pass, of_both}
 use Rattle.text.specs.Combine.{All}
 use Rattle.text.specs.Hex.{between}
 use Rattle.text.proofs.Tests.{clash, between_le}
 use Rattle.grammar.specs.Sheet.{key_byte, value_byte, eq, nl, same, Annotation, ValidAnnotation, line}
-use Rattle.lookup.specs.Steps.{to_line_end, keyed_by}
+use Rattle.lookup.specs.Steps.{to_line_end, keyed_by, alike, equals_first}
 
 -- ---- what an annotation is made of
 -- a byte of a key is neither `=` nor a line end
@@ -91,43 +92,62 @@ or_len i n h = grind (arith, nat_tests)
 pub end_found : (s : List ℕ) → unwrap_or (position (λ b. b == 10) s) (length s) ≡ to_line_end s
 end_found s = or_len (position_or_len (λ b. b == 10) s) (length s) (rw (end_position s) (end_within s)) ∙ end_position s
 
--- a line has the key where it begins with it and an `=`, and the key holds none
-abbrev pub begins : List ℕ → List ℕ → Bool
-begins k s = pointwise eqb (take (length k) s) k
+-- a line has the key where they go alike to the key's end, and an `=` follows there
+abbrev pub equals_behind : ℕ → List ℕ → Bool
+equals_behind n s = equals_first (drop n s)
 
-abbrev pub equals_behind : List ℕ → List ℕ → Bool
-equals_behind k s = pointwise eqb (61 ∷ []) (take 1 (drop (length k) s))
+none : (n : ℕ) → eqb 0 (suc n) ≡ false
+none n = ne_eqb 0 (suc n) (λ e. omega (arith, e))
 
-abbrev pub holds : List ℕ → Bool
-holds k = list_any (λ (y : ℕ). eqb y 61) k
+each : (n m : ℕ) (t : Bool) → eqb n m ≡ t → eqb (suc n) (suc m) ≡ t
+each n m true e = eq-eqb (suc n) (suc m) (ap suc (eqb-true n m e))
+each n m false e = ne_eqb (suc n) (suc m) (λ q. eqb-false n m e (omega (arith, q)))
 
-other : (x u w t : Bool) → u && w ≡ false → (w ≡ false → false ≡ t) → false ≡ x && (u && t)
-other x true w t e h = sym (and_false x) ∙ ap (λ (t : Bool). x && t) (h e)
-other x false w t e h = sym (and_false x)
+pub key_alike : (k s : List ℕ) → eqb (alike k s) (length k) && equals_behind (alike k s) s ≡ keyed_by k s
+key_alike [] [] = refl
+key_alike [] (b ∷ s) = refl
+key_alike (c ∷ k) [] = ap (λ (t : Bool). t && equals_behind 0 []) (none (length k))
+key_alike (c ∷ k) (b ∷ s) = go (eqb b 61) (eqb b c) (key_alike k s)
+  where
+    at : Bool → ℕ
+    at t = choose t (suc (alike k s)) 0
 
-pub key_other : (k s : List ℕ) → begins k s ≡ false → false ≡ keyed_by k s
-key_other [] s e = absurd cc
-key_other (c ∷ k) [] e = refl
-key_other (c ∷ k) (b ∷ s) e = other (not (eqb b 61)) (eqb b c) (begins k s) (keyed_by k s) e (key_other k s)
+    go : (x u : Bool) → eqb (alike k s) (length k) && equals_behind (alike k s) s ≡ keyed_by k s
+        → eqb (at (not x && u)) (suc (length k)) && equals_behind (at (not x && u)) (b ∷ s) ≡ not x && (u && keyed_by k s)
+    go true u h = ap (λ (t : Bool). t && equals_behind 0 (b ∷ s)) (none (length k))
+    go false true h = ap (λ (t : Bool). t && equals_behind (alike k s) s) (each (alike k s) (length k) (eqb (alike k s) (length k)) refl) ∙ h
+    go false false h = ap (λ (t : Bool). t && equals_behind 0 (b ∷ s)) (none (length k))
 
-alone : (b : ℕ) (t : Bool) → eqb b 61 ≡ t → t ≡ (eqb 61 b && true) && true
-alone b true e = rw (eq-eqb 61 b (sym (eqb-true b 61 e)))
-alone b false e = rw (ne_eqb 61 b (λ q. eqb-false b 61 e (sym q)))
+-- so where the two go alike to the key's end, what follows there decides, and else the line has another key
+module _ (k s : List ℕ) (n : ℕ) (e : n ≡ alike k s) where
+  there : (t : Bool) → eqb n (length k) ≡ t → t && equals_behind n s ≡ keyed_by k s
+  there t h = sym (ap (λ (x : Bool). x && equals_behind n s) h) ∙ ap (λ (m : ℕ). eqb m (length k) && equals_behind m s) e ∙ key_alike k s
 
-past_first : (x p a : Bool) → not x && (true && (p && not a)) ≡ p && not (x || a)
-past_first true p a = sym (and_false p)
-past_first false p a = refl
+  -- what the code's slice holds
+  left : take (length s - n) (drop n s) ≡ drop n s
+  left = take_all (length s - n) (drop n s) (omega (arith, length-drop n s))
 
-key_begun : (k s : List ℕ) → begins k s ≡ true → keyed_by k s ≡ equals_behind k s && not (holds k)
-key_begun [] [] e = refl
-key_begun [] (b ∷ s) e = alone b (eqb b 61) refl
-key_begun (c ∷ k) [] e = absurd cc
-key_begun (c ∷ k) (b ∷ s) e =
-    let w = both_pass (eqb b c) (begins k s) e in
-    ap (λ (t : Bool). not (eqb b 61) && (eqb b c && t)) (key_begun k s w.1)
-    ∙ ap (λ (t : Bool). not (eqb b 61) && (t && (equals_behind k s && not (holds k)))) w.0
-    ∙ ap (λ (n : ℕ). not (eqb n 61) && (true && (equals_behind k s && not (holds k)))) (eqb-true b c w.0)
-    ∙ past_first (eqb c 61) (equals_behind k s) (holds k)
+  pub key_there : (t : Bool) → n ≡ length k → t ≡ equals_first (take (length s - n) (drop n s)) → t ≡ keyed_by k s
+  key_there t h f = f ∙ ap equals_first left ∙ there true (eq-eqb n (length k) h)
 
-pub key_equals : (k s : List ℕ) (t : Bool) → begins k s ≡ true → t ≡ equals_behind k s → t && not (holds k) ≡ keyed_by k s
-key_equals k s t e f = ap (λ (t : Bool). t && not (holds k)) f ∙ sym (key_begun k s e)
+  pub key_other : (n ≡ length k → ⊥) → eqb n (length k) ≡ keyed_by k s
+  key_other h = let m = ne_eqb n (length k) h in m ∙ there false m
+
+-- the pairs that the chain goes through
+abbrev pub goes_alike : ℕ × ℕ → Bool
+goes_alike p = not (eqb p.0 61) && eqb p.0 p.1
+
+pub alike_prefix : (k s : List ℕ) → prefix_len goes_alike (zip s k) ≡ alike k s
+alike_prefix [] [] = refl
+alike_prefix [] (b ∷ s) = refl
+alike_prefix (c ∷ k) [] = refl
+alike_prefix (c ∷ k) (b ∷ s) = go (not (eqb b 61) && eqb b c) (alike_prefix k s)
+  where
+    go : (t : Bool) → prefix_len goes_alike (zip s k) ≡ alike k s → cond t (1 + prefix_len goes_alike (zip s k)) 0 ≡ choose t (suc (alike k s)) 0
+    go true e = omega (arith, e)
+    go false e = refl
+
+pub alike_within : (k s : List ℕ) → alike k s ≤ length s
+alike_within [] s = omega arith
+alike_within (c ∷ k) [] = omega arith
+alike_within (c ∷ k) (b ∷ s) = of_both (λ (n : ℕ). n ≤ suc (length s)) (not (eqb b 61) && eqb b c) (omega (arith, alike_within k s)) (omega arith)

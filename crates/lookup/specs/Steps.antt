@@ -21,6 +21,17 @@ keyed_by [] (b ∷ s) = eqb b 61
 keyed_by (c ∷ k) [] = false
 keyed_by (c ∷ k) (b ∷ s) = not (eqb b 61) && (eqb b c && keyed_by k s)
 
+-- whether an `=` stands first
+abbrev pub equals_first : List ℕ → Bool
+equals_first [] = false
+equals_first (b ∷ s) = eqb b 61
+
+-- how many bytes the key and what stands before the first `=` begin with alike
+abbrev pub alike : List ℕ → List ℕ → ℕ
+alike [] s = 0
+alike (c ∷ k) [] = 0
+alike (c ∷ k) (b ∷ s) = choose (not (eqb b 61) && eqb b c) (suc (alike k s)) 0
+
 -- where the first value under the key in an accepted sheet lies, if one has it
 abbrev pub found_in : List ℕ → List ℕ → Option Span
 found_in s k = choose (has_key s k) (Some (record { from = value_from s k; size = length (value_in s k) })) None

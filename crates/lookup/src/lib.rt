@@ -1,12 +1,12 @@
 // Notes that stand on the cover: which of two sheets has a key, and the first value under it as a part of that sheet.
 #![tactic(auto)]
 
-ghost use Rattle.std.specs.Prelude.{◌≡◌, ◌==◌, true};
+ghost use Rattle.std.specs.Prelude.{◌≡◌, ◌==◌, ◌≤◌, true, length};
 ghost use Rattle.std.specs.List.{list_any};
 ghost use Rattle.answer.specs.Told.{told_of};
 ghost use Rattle.grammar.specs.Given.{accepted, tail_from};
 ghost use Rattle.lookup.specs.Lookup.{holder_told, held, HeldPart};
-ghost use Rattle.lookup.specs.Steps.{to_line_end, keyed_by, found_in, LinesFrom, Finds};
+ghost use Rattle.lookup.specs.Steps.{to_line_end, keyed_by, alike, equals_first, found_in, LinesFrom, Finds};
 
 use answer::{Answer, Refusal};
 use scan::Span;
@@ -42,14 +42,30 @@ fn line_end(s: &[u8]) -> usize
     s.len() - rest.len() + near.unwrap_or(rest.len())
 }
 
-// Whether a line has the key: it begins with the key and an `=`. The line's own key ends at its first `=`, so one that holds an `=` is the key of none.
+// How many bytes the key and a line's own key, which ends at its first `=`, begin with alike.
+fn alike(line: &[u8], key: &[u8]) -> usize
+    ensures value { result ≡ alike key.now line.now }
+    ensures within { result ≤ length line.now }
+{
+    line.iter()
+        .zip(key)
+        .take_while(|pair| *pair.0 != b'=' && pair.0 == pair.1)
+        .count()
+}
+
+// Whether an `=` stands first.
+fn equals_first(rest: &[u8]) -> bool
+    ensures { result ≡ equals_first rest.now }
+{
+    matches!(rest, [b'=', ..])
+}
+
+// Whether a line has the key: its own key is this one, whole. No more than that is compared, whatever else the key begins like.
 fn has_key(line: &[u8], key: &[u8]) -> bool
     ensures { result ≡ keyed_by key.now line.now }
 {
-    match line.strip_prefix(key) {
-        Some(rest) => rest.starts_with(b"=") && !key.contains(&b'='),
-        None => false,
-    }
+    let same = alike(line, key);
+    same == key.len() && equals_first(&line[same..])
 }
 
 // The first value under the key in an accepted sheet, the annotation lines beginning at `from`.

@@ -3,7 +3,6 @@
 
 use answer::Refusal;
 use files::{Failure, LONGEST_PATH};
-use std::alloc::AllocError;
 use std::fmt::{Display, Formatter};
 use std::fs::File;
 use std::rt::{Env, Files};
@@ -48,9 +47,14 @@ fn broken(record: &[u8]) -> Holder {
 // A refusal, and where a sheet is broken, which.
 fn print_refusal(rt: &impl Print, refusal: Refusal, record: &[u8]) -> io::Result<()> {
     match refusal {
-        Refusal::BrokenSheet(place) => {
+        Refusal::BrokenSheet(_) => {
+            let answer = Err(refusal);
             let holder = broken(record);
-            println!(rt; "status=11\nsheet={holder}\nplace={place}")
+            println!(rt;
+                "status={}\nsheet={holder}\nplace={}",
+                answer::number(answer),
+                answer::place(answer)
+            )
         }
         _ => println!(rt; "{refusal}"),
     }
@@ -58,11 +62,10 @@ fn print_refusal(rt: &impl Print, refusal: Refusal, record: &[u8]) -> io::Result
 
 // Asks for the key, and prints what the clerk is told.
 fn print(rt: &impl Print, record: &[u8], cover: &[u8], key: &[u8]) -> io::Result<()> {
-    let value = lookup::value(record, cover, key);
     // Kept as a number, 0 for the record's sheet: because `holder` is public, and `holder_told` in its contract has it so.
     match lookup::holder(record, cover, key) {
-        Ok(0) => print_value(rt, Holder::Record, value),
-        Ok(_) => print_value(rt, Holder::Cover, value),
+        Ok(0) => print_value(rt, Holder::Record, lookup::value(record, cover, key)),
+        Ok(_) => print_value(rt, Holder::Cover, lookup::value(record, cover, key)),
         Err(refusal) => print_refusal(rt, refusal, record),
     }
 }
@@ -72,7 +75,7 @@ fn print(rt: &impl Print, record: &[u8], cover: &[u8], key: &[u8]) -> io::Result
 // Each sheet is read with a byte more than the longest that can be accepted: what lies past that changes nothing (`note_enough` of crate
 // claims). Both are read before one that cannot be ends the program, so that each is named.
 fn by_names(
-    rt: &(impl Files<File = File> + Print + Eprint + AllocGlobal),
+    rt: &(impl Files<File = File> + Print + Eprint),
     key: &[u8],
     record: &[u8],
     cover: &[u8],
@@ -89,10 +92,19 @@ fn by_names(
 
 // Asks by three arguments; a fourth is enough to see that there are too many. A key that is too long is asked for as an empty one:
 // neither can be a key.
-fn run(rt: &(impl Env + Files<File = File> + Print + Eprint + AllocGlobal)) -> Result<(), Failure> {
-    let given = files::arguments(rt, 4, LONGEST_PATH)?;
-    match given.as_slice() {
-        [key, record, cover] if !record.is_empty() && !cover.is_empty() => {
+fn run(rt: &(impl Env + Files<File = File> + Print + Eprint)) -> Result<(), Failure> {
+    let mut key = [0u8; LONGEST_PATH];
+    let mut record = [0u8; LONGEST_PATH];
+    let mut cover = [0u8; LONGEST_PATH];
+    let mut more = [0u8; 1];
+    let given = [
+        files::argument(rt, 1, &mut key),
+        files::argument(rt, 2, &mut record),
+        files::argument(rt, 3, &mut cover),
+        files::argument(rt, 4, &mut more),
+    ];
+    match given {
+        [Some(key), Some(record), Some(cover), None] if !record.is_empty() && !cover.is_empty() => {
             by_names(rt, key, record, cover)
         }
         _ => {
@@ -102,10 +114,7 @@ fn run(rt: &(impl Env + Files<File = File> + Print + Eprint + AllocGlobal)) -> R
     }
 }
 
-// What failed of a file has been told; only a lack of memory is left to say.
-fn main(rt: HostRuntime) -> Result<(), AllocError> {
-    match run(&rt) {
-        Ok(()) | Err(Failure::Told) => Ok(()),
-        Err(Failure::OutOfMemory(error)) => Err(error),
-    }
+// What failed of a file has been told.
+fn main(rt: HostRuntime) {
+    let _ = run(&rt);
 }

@@ -5,7 +5,7 @@
 fn print(rt: &(impl Print + Eprint), sheet: &[u8]) {
     let text = report_text::report(sheet);
     let bytes = &text.bytes[..];
-    if rt.write_all(&bytes[..text.len.min(bytes.len())]).is_err() {
+    if rt.write_all(&bytes[..text.len]).is_err() {
         let _ = eprintln!(rt; "report: the output is not whole");
     }
 }

@@ -173,7 +173,7 @@ impl Text {
 fn is_broken(refusal: Refusal) -> bool
     ensures { result ≡ ((told_by refusal).number == 11) }
 {
-    matches!(refusal, Refusal::BrokenSheet(_))
+    answer::number(Err(refusal)) == 11
 }
 
 // The text where an answer is told of a sheet, by what was taken in of it.

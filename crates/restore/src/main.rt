@@ -7,7 +7,6 @@ use answer::{Answer, Refusal};
 use files::{Failure, LONGEST_PATH};
 use picture::FILE_LENGTH;
 use settings::{FRAME_LENGTH, Look};
-use std::alloc::AllocError;
 use std::fs::File;
 use std::io;
 use std::rt::{Env, Files};
@@ -62,7 +61,7 @@ fn strip_of<'a>(pins: u8, png: &[u8], strip: &'a mut [u8]) -> Result<&'a [u8], R
 
 // Keeps a strip under a name that is free, and says so once it is on the disk.
 fn keep(
-    rt: &(impl Files<File = File> + Print + Eprint + AllocGlobal),
+    rt: &(impl Files<File = File> + Print + Eprint),
     path: &[u8],
     strip: &[u8],
 ) -> Result<(), Failure> {
@@ -74,7 +73,7 @@ fn keep(
 
 // Restores the strip of a picture file.
 fn restore(
-    rt: &(impl Files<File = File> + Print + Eprint + AllocGlobal),
+    rt: &(impl Files<File = File> + Print + Eprint),
     pins: u8,
     png: &[u8],
     path: &[u8],
@@ -91,7 +90,7 @@ fn restore(
 
 // Reads the picture, with a byte more than every picture has, and restores its strip.
 fn by_names(
-    rt: &(impl Files<File = File> + Print + Eprint + AllocGlobal),
+    rt: &(impl Files<File = File> + Print + Eprint),
     pins: u8,
     picture: &[u8],
     strip: &[u8],
@@ -109,9 +108,18 @@ fn explain(rt: &impl Eprint) {
 }
 
 // Restores by three arguments; a fourth is enough to see that there are too many.
-fn run(rt: &(impl Env + Files<File = File> + Print + Eprint + AllocGlobal)) -> Result<(), Failure> {
-    let given = files::arguments(rt, 4, LONGEST_PATH)?;
-    if let [word, picture, strip] = given.as_slice()
+fn run(rt: &(impl Env + Files<File = File> + Print + Eprint)) -> Result<(), Failure> {
+    let mut word = [0u8; LONGEST_PATH];
+    let mut picture = [0u8; LONGEST_PATH];
+    let mut strip = [0u8; LONGEST_PATH];
+    let mut more = [0u8; 1];
+    let given = [
+        files::argument(rt, 1, &mut word),
+        files::argument(rt, 2, &mut picture),
+        files::argument(rt, 3, &mut strip),
+        files::argument(rt, 4, &mut more),
+    ];
+    if let [Some(word), Some(picture), Some(strip), None] = given
         && let Some(pins) = pins_in(word)
     {
         return by_names(rt, pins, picture, strip);
@@ -120,10 +128,7 @@ fn run(rt: &(impl Env + Files<File = File> + Print + Eprint + AllocGlobal)) -> R
     Ok(())
 }
 
-// What failed of a file has been told; only a lack of memory is left to say.
-fn main(rt: HostRuntime) -> Result<(), AllocError> {
-    match run(&rt) {
-        Ok(()) | Err(Failure::Told) => Ok(()),
-        Err(Failure::OutOfMemory(error)) => Err(error),
-    }
+// What failed of a file has been told.
+fn main(rt: HostRuntime) {
+    let _ = run(&rt);
 }

@@ -1,5 +1,5 @@
 -- What stands at the start of some bytes, as a prefix that passes a test: the bytes of a class, and those of a word.
-use Rattle.std.proofs.Common.{ℕ, zero, suc, ◌+◌, ◌≤◌, ◌≡◌, List, [], ◌∷◌, Bool, true, false, cond, eqb, length, take, refl, arith}
+use Rattle.std.proofs.Common.{ℕ, zero, suc, ◌+◌, ◌≤◌, ◌≡◌, min, List, [], ◌∷◌, Bool, true, false, cond, eqb, length, take, refl, ap, ◌∙◌, arith}
 use Rattle.std.specs.List.{prefix_len, zip}
 use Rattle.promises.specs.Choose.{choose}
 use Rattle.text.specs.Combine.{span, common}
@@ -12,6 +12,14 @@ span_prefix p (suc m) (b ∷ s) = go (p b) (span_prefix p m s)
     go : (t : Bool) → prefix_len p (take m s) ≡ span p m s → cond t (1 + prefix_len p (take m s)) 0 ≡ choose t (suc (span p m s)) 0
     go true e = omega (arith, e)
     go false e = refl
+
+-- the front of no more than so many bytes, however long the rest is
+pub front : (m : ℕ) (s : List ℕ) → take (min (length s) m) s ≡ take m s
+front zero s = let e : min (length s) 0 ≡ 0 = omega arith in ap (λ (n : ℕ). take n s) e
+front (suc m) [] = let e : min 0 (suc m) ≡ 0 = omega arith in ap (λ (n : ℕ). take {A = ℕ} n []) e
+front (suc m) (b ∷ s) =
+    let e : min (suc (length s)) (suc m) ≡ suc (min (length s) m) = omega arith in
+    ap (λ (n : ℕ). take n (b ∷ s)) e ∙ ap (λ (x : List ℕ). b ∷ x) (front m s)
 
 pub span_within : (p : ℕ → Bool) (m : ℕ) (s : List ℕ) → span p m s ≤ length s
 span_within p zero s = omega arith

@@ -76,7 +76,10 @@ impl Class for RuleDigit {
 fn run<C: Class>(rest: &[u8], most: usize) -> usize
     ensures { result ≡ span C.class most rest.now }
 {
-    rest.iter().take(most).take_while(|b| C::has(**b)).count()
+    rest[..rest.len().min(most)]
+        .iter()
+        .take_while(|b| C::has(**b))
+        .count()
 }
 
 // How many of the bytes of a key the rest begins with.

@@ -11,7 +11,7 @@ ghost use Rattle.trial.specs.Buffers.{run, laid, marked, unchanged_from, sum_of}
 
 use answer::Answer;
 use settings::{Look, Rule, Settings};
-use std::fmt;
+use std::{fmt, io};
 
 // == Settings and buffers: made, cut short, and read.
 
@@ -146,6 +146,38 @@ pub fn sum(s: &[u8]) -> usize
 }
 
 // == What is printed: answers, what a line is under, and bytes. A program prints them by its formats.
+
+// Standard output as the trial programs write it: where a write fails, this is said on standard error, and the trial goes on.
+#[derive(Drop)]
+pub struct Output<R> {
+    pub rt: R,
+}
+
+impl<R: Eprint> Output<R> {
+    // Says so where something was not written whole.
+    fn look_at(&self, written: io::Result<()>) {
+        if written.is_err() {
+            let _ = eprintln!(self.rt; "the output is not whole");
+        }
+    }
+}
+
+impl<R: Print + Eprint> Print for Output<R> {
+    fn print<D: fmt::Display + Drop>(&self, value: D) -> io::Result<()> {
+        self.look_at(self.rt.print(value));
+        Ok(())
+    }
+
+    fn println<D: fmt::Display + Drop>(&self, value: D) -> io::Result<()> {
+        self.look_at(self.rt.println(value));
+        Ok(())
+    }
+
+    fn write_all(&self, bytes: &[u8]) -> io::Result<()> {
+        self.look_at(self.rt.write_all(bytes));
+        Ok(())
+    }
+}
 
 // An answer's number and place.
 #[derive(Clone, Copy)]

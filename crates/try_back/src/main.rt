@@ -2,7 +2,7 @@
 #![tactic(auto)]
 
 use std::io;
-use trial::{Answered, cut, lay, look_of, mark, put, sum, unchanged_from};
+use trial::{Answered, Output, cut, lay, look_of, mark, put, sum, unchanged_from};
 
 // == Refusals and their order, with the strip held against what it was before.
 
@@ -73,6 +73,7 @@ fn looks(rt: &impl Print) -> io::Result<()> {
 }
 
 fn main(rt: HostRuntime) -> io::Result<()> {
+    let rt = Output { rt };
     refusals(&rt)?;
     looks(&rt)
 }

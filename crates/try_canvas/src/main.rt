@@ -4,7 +4,7 @@
 use answer::Answer;
 use plans::Placement;
 use std::{fmt, io};
-use trial::{Answered, cut, lay, mark, sum, unchanged_from};
+use trial::{Answered, Output, cut, lay, mark, sum, unchanged_from};
 
 // How many bytes of the frame are lent, the sides that are stated of the canvas, and how many bytes of it are lent.
 #[derive(Clone, Copy)]
@@ -370,6 +370,7 @@ fn orders(rt: &impl Print) -> io::Result<()> {
 }
 
 fn main(rt: HostRuntime) -> io::Result<()> {
+    let rt = Output { rt };
     edges(&rt)?;
     shapes(&rt)?;
     canvases(&rt)?;

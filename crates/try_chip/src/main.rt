@@ -3,7 +3,7 @@
 
 use answer::Answer;
 use std::io;
-use trial::{Answered, byte_at, cut, lay, mark, sum, unchanged_from};
+use trial::{Answered, Output, byte_at, cut, lay, mark, sum, unchanged_from};
 
 // k, how many bytes are lent, and how many there is room for.
 type Row = (usize, usize, usize);
@@ -108,6 +108,7 @@ fn twice(rt: &impl Print, bytes: &[u8]) -> io::Result<()> {
 
 // Bytes that tell their places: no two rows or columns of a bank are alike.
 fn main(rt: HostRuntime) -> io::Result<()> {
+    let rt = Output { rt };
     let mut bytes = [0u8; 131072];
     lay(&mut bytes, 0, 1, 61);
     transposed_each(&rt, "to image", &IMAGES, &bytes, transpose::to_image)?;

@@ -2,7 +2,7 @@
 #![tactic(auto)]
 
 use std::io;
-use trial::{Figure, NumberAndPlace};
+use trial::{Figure, NumberAndPlace, Output};
 
 // Plays writes from a word, and prints at most five of them and the answer with its word.
 fn play(rt: &impl Print, figure: Option<u8>, from: u16, writes: &[u16]) -> io::Result<()> {
@@ -45,6 +45,7 @@ fn corners(rt: &impl Print) -> io::Result<()> {
 }
 
 fn main(rt: HostRuntime) -> io::Result<()> {
+    let rt = Output { rt };
     figures(&rt)?;
     bits(&rt)?;
     corners(&rt)

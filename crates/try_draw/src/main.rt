@@ -4,7 +4,7 @@
 
 use std::io;
 use std::ops::Range;
-use trial::{Answered, Figure, cut, lay, look_of, mark, sum, unchanged_from};
+use trial::{Answered, Figure, Output, cut, lay, look_of, mark, sum, unchanged_from};
 
 // == Dots: figures P10 to P12, the text figures, and corners of the modes.
 
@@ -222,6 +222,7 @@ fn draws(rt: &impl Print, font: &[u8], strip: &[u8], letters: &[u8]) -> io::Resu
 // A font that is marked, by one more from each 64th pattern on, so that no two patterns are alike, with a row of its own for pattern 1; a
 // strip of varied bytes, and one whose first 6,144 bytes are letters.
 fn main(rt: HostRuntime) -> io::Result<()> {
+    let rt = Output { rt };
     let mut font = [0u8; 3073];
     let mut strip = [0u8; 8192];
     let mut letters = [0u8; 8192];

@@ -6,7 +6,9 @@
 use counter::Counter;
 use settings::Settings;
 use std::io;
-use trial::{Answered, Figure, Under, byte_at, cut, lay, mark, settings_of, sum, unchanged_from};
+use trial::{
+    Answered, Figure, Output, Under, byte_at, cut, lay, mark, settings_of, sum, unchanged_from,
+};
 
 // == Addresses: figures P5 to P9, by the counter and by fetching.
 
@@ -422,6 +424,7 @@ fn fetches(rt: &impl Print, low: &[u8], high: &[u8], varied: &[u8]) -> io::Resul
 
 // Two images that tell the low and the high bytes of their addresses, and one in which no two rows or columns of a chip are alike.
 fn main(rt: HostRuntime) -> io::Result<()> {
+    let rt = Output { rt };
     let mut low = [0u8; 65536];
     let mut high = [0u8; 65536];
     let mut varied = [0u8; 65536];

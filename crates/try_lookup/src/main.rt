@@ -1,9 +1,10 @@
 // Tries keys in a record's sheet and a cover: which of the two has each, and the value given. Prints a line for each.
 #![tactic(auto)]
 
-use std::alloc::{AllocError, Global};
+use arrayvec::ArrayVec;
 use std::io;
-use trial::{Answered, Quoted};
+use std::io::Write;
+use trial::{Answered, Output, Quoted};
 
 // A record's sheet, and the cover of its batch.
 #[derive(Clone, Copy)]
@@ -140,22 +141,23 @@ fn brokens(rt: &impl Print) -> io::Result<()> {
     sheets(b"", COVER).try_keys(rt, &[b"parish"])
 }
 
-// A sheet of 200 annotations, of which the last alone has another key.
-fn long(alloc: Global) -> Result<Vec<u8>, AllocError> {
-    let mut sheet = Vec::new(alloc);
-    sheet.extend_from_slice(BARE)?;
+// A sheet of 200 annotations, of which the last alone has another key. There is room for all of it, and each write takes its bytes whole.
+fn long() -> ArrayVec<u8, 831> {
+    let mut sheet = ArrayVec::new();
+    let _ = sheet.write(BARE);
     for _ in 0..199 {
-        sheet.extend_from_slice(b"k=v\n")?;
+        let _ = sheet.write(b"k=v\n");
     }
-    sheet.extend_from_slice(b"last=200\n")?;
-    Ok(sheet)
+    let _ = sheet.write(b"last=200\n");
+    sheet
 }
 
 fn main(rt: HostRuntime) -> io::Result<()> {
+    let rt = Output { rt };
     keys(&rt)?;
     wide(&rt)?;
     brokens(&rt)?;
-    let long = long(rt.alloc())?;
+    let long = long();
     sheets(&long, BARE).ask_lines(&rt, "record")?;
     sheets(BARE, &long).ask_lines(&rt, "cover")?;
     sheets(&long, &long).ask_lines(&rt, "both")

@@ -3,7 +3,7 @@
 
 use answer::Answer;
 use std::{fmt, io};
-use trial::{Answered, cut, mark, put, sum, unchanged_from};
+use trial::{Answered, Output, cut, mark, put, sum, unchanged_from};
 
 // Puts varied pixels everywhere: those of a line differ from those above and below.
 fn vary(s: &mut [u8]) {
@@ -38,6 +38,8 @@ fn tell_of(rt: &impl Print, answer: Answer, buffer: &[u8], stored: usize) -> io:
 type Row = (u8, usize, usize);
 
 // Makes the picture of as many pixels as told, in a buffer as long as told.
+// Called, as the three that hold buffers below: what one of them needs is given back before the next.
+#[inline(never)]
 fn encode(rt: &impl Print, row: Row, frame: &[u8]) -> io::Result<()> {
     let (border, lent, size) = row;
     let mut buffer = [0u8; 38750];
@@ -57,11 +59,13 @@ fn encode_all(rt: &impl Print, rows: &[Row], frame: &[u8]) -> io::Result<()> {
 }
 
 // Makes the picture of one colour, border and frame.
+#[inline(never)]
 fn plain(rt: &impl Print, colour: u8) -> io::Result<()> {
     encode(rt, (colour, 49152, 38747), &[colour; 49152])
 }
 
 // Makes the picture of a varied frame with another pixel at a place.
+#[inline(never)]
 fn stained(rt: &impl Print, border: u8, pixel: u8, place: usize) -> io::Result<()> {
     let mut frame = varied();
     put(&mut frame, place, pixel);
@@ -167,6 +171,7 @@ const FILES: [(File, usize); 22] = [
 ];
 
 // Reads a file made of a frame's picture into a buffer as long as told, which is printed where it is not a frame's length.
+#[inline(never)]
 fn decode(rt: &impl Print, made: File, size: usize, frame: &[u8]) -> io::Result<()> {
     let mut file = [0u8; 38748];
     let _ = picture::encode(4, frame, &mut file);
@@ -184,6 +189,7 @@ fn decode(rt: &impl Print, made: File, size: usize, frame: &[u8]) -> io::Result<
 
 // Pictures of a varied frame, refusals, and files read.
 fn main(rt: HostRuntime) -> io::Result<()> {
+    let rt = Output { rt };
     let frame = varied();
     pictures(&rt, &frame)?;
     refusals(&rt, &frame)?;

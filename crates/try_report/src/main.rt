@@ -3,7 +3,7 @@
 
 use answer::{Answer, Refusal};
 use std::io;
-use trial::{NumberAndPlace, Quoted, cut};
+use trial::{NumberAndPlace, Output, Quoted, cut};
 
 // The example, and with pins=10, external text.
 const EXAMPLES: [&[u8]; 2] = [
@@ -87,6 +87,7 @@ fn after(rt: &impl Print) -> io::Result<()> {
 }
 
 fn main(rt: HostRuntime) -> io::Result<()> {
+    let rt = Output { rt };
     reports(&rt, &EXAMPLES)?;
     reports(&rt, &STATUSES)?;
     reports(&rt, &RULES)?;

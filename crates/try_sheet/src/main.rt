@@ -1,9 +1,10 @@
 // Tries sheets: each corner of document 01's sheet, refused with its place or accepted with its fields. Prints a line for each.
 #![tactic(auto)]
 
-use std::alloc::{AllocError, Global};
+use arrayvec::ArrayVec;
 use std::io;
-use trial::{NumberAndPlace, Quoted, RuleNumber};
+use std::io::{Cursor, Write};
+use trial::{NumberAndPlace, Output, Quoted, RuleNumber, cut};
 
 // Reads a sheet, and prints what it yields: its fields, the deed, the first annotation, the last, and one past the last.
 fn read(rt: &impl Print, sheet: &[u8]) -> io::Result<()> {
@@ -94,12 +95,12 @@ const ACCEPTED: [&[u8]; 5] = [
     b"a=1\na=2\nb=3\n",
 ];
 
-// Prints each sheet that goes on from a head, and what it yields.
-fn corners(rt: &impl Print, alloc: Global, head: &[u8], rests: &[&[u8]]) -> io::Result<()> {
+// Prints each sheet that goes on from a head, and what it yields. None of them has more bytes than there is room for.
+fn corners(rt: &impl Print, head: &[u8], rests: &[&[u8]]) -> io::Result<()> {
     for &rest in rests {
-        let mut sheet = Vec::new(alloc);
-        sheet.extend_from_slice(head)?;
-        sheet.extend_from_slice(rest)?;
+        let mut sheet = ArrayVec::<u8, 512>::new();
+        let _ = sheet.write(head);
+        let _ = sheet.write(rest);
         print!(rt; "{}", Quoted(&sheet))?;
         read(rt, &sheet)?;
     }
@@ -119,39 +120,40 @@ struct Long<'a> {
     more: usize,
 }
 
-// Appends a piece some times.
-fn append(sheet: &mut Vec<u8>, piece: &[u8], count: usize) -> Result<(), AllocError> {
+// Appends a piece some times, as far as there is room.
+fn append(sheet: &mut impl Write, piece: &[u8], count: usize) {
     for _ in 0..count {
-        sheet.extend_from_slice(piece)?;
+        let _ = sheet.write(piece);
     }
-    Ok(())
 }
 
 impl Long<'_> {
-    // One of its lines.
-    fn line(self, alloc: Global) -> Result<Vec<u8>, AllocError> {
-        let mut line = Vec::new(alloc);
-        append(&mut line, b"k", self.keys)?;
-        line.push(b'=')?;
-        append(&mut line, b"v", self.values)?;
-        line.push(b'\n')?;
-        Ok(line)
+    // One of its lines. The longest that is tried has 138 bytes.
+    fn line(self) -> ArrayVec<u8, 256> {
+        let mut line = ArrayVec::new();
+        append(&mut line, b"k", self.keys);
+        append(&mut line, b"=", 1);
+        append(&mut line, b"v", self.values);
+        append(&mut line, b"\n", 1);
+        line
     }
 
-    // Its bytes.
-    fn bytes(self, alloc: Global) -> Result<Vec<u8>, AllocError> {
-        let line = self.line(alloc)?;
-        let mut sheet = Vec::new(alloc);
-        sheet.extend_from_slice(self.head)?;
-        append(&mut sheet, b"at=FFC1\n", self.writes)?;
-        append(&mut sheet, &line, self.lines)?;
-        append(&mut sheet, b"a", self.more)?;
-        Ok(sheet)
+    // Puts its bytes at the start of a buffer, and hands back how many they are.
+    fn lay(self, buffer: &mut [u8]) -> usize {
+        let line = self.line();
+        let mut sheet = Cursor::new(buffer);
+        append(&mut sheet, self.head, 1);
+        append(&mut sheet, b"at=FFC1\n", self.writes);
+        append(&mut sheet, &line, self.lines);
+        append(&mut sheet, b"a", self.more);
+        sheet.position() as usize
     }
 
-    // Prints what it is, and what it yields.
-    fn read(self, rt: &impl Print, alloc: Global) -> io::Result<()> {
-        let sheet = self.bytes(alloc)?;
+    // Prints what it is, and what it yields. The longest that is tried has 28,159 bytes.
+    fn read(self, rt: &impl Print) -> io::Result<()> {
+        let mut buffer = [0u8; 28160];
+        let len = self.lay(&mut buffer);
+        let sheet = cut(&buffer, len);
         print!(rt;
             "writes {}, {} lines with keys of {} and values of {}, {} more, {} bytes",
             self.writes,
@@ -161,12 +163,12 @@ impl Long<'_> {
             self.more,
             sheet.len()
         )?;
-        read(rt, &sheet)
+        read(rt, sheet)
     }
 }
 
 // Short lines on a sheet without notes: as many as told, with values as long as told.
-fn lines(rt: &impl Print, alloc: Global, values: usize, lines: usize) -> io::Result<()> {
+fn lines(rt: &impl Print, values: usize, lines: usize) -> io::Result<()> {
     let long = Long {
         head: b"deed=K\npins=20\nwrites=0\n",
         writes: 0,
@@ -175,11 +177,11 @@ fn lines(rt: &impl Print, alloc: Global, values: usize, lines: usize) -> io::Res
         lines,
         more: 0,
     };
-    long.read(rt, alloc)
+    long.read(rt)
 }
 
 // The longest sheet that goes on from a head, and a byte more.
-fn longest(rt: &impl Print, alloc: Global, head: &[u8]) -> io::Result<()> {
+fn longest(rt: &impl Print, head: &[u8]) -> io::Result<()> {
     for more in [0, 1] {
         let long = Long {
             head,
@@ -189,38 +191,29 @@ fn longest(rt: &impl Print, alloc: Global, head: &[u8]) -> io::Result<()> {
             lines: 200,
             more,
         };
-        long.read(rt, alloc)?;
+        long.read(rt)?;
     }
     Ok(())
 }
 
 // A value one byte too long and the longest, a line too many and the most; the longest sheet and a byte more, without the rule and with it.
-fn longs(rt: &impl Print, alloc: Global) -> io::Result<()> {
-    lines(rt, alloc, 121, 1)?;
-    lines(rt, alloc, 120, 1)?;
-    lines(rt, alloc, 0, 201)?;
-    lines(rt, alloc, 0, 200)?;
-    longest(rt, alloc, b"deed=----------------\npins=FF\nwrites=64\n")?;
-    longest(
-        rt,
-        alloc,
-        b"deed=----------------\npins=FF\nrule=2\nwrites=64\n",
-    )
+fn longs(rt: &impl Print) -> io::Result<()> {
+    lines(rt, 121, 1)?;
+    lines(rt, 120, 1)?;
+    lines(rt, 0, 201)?;
+    lines(rt, 0, 200)?;
+    longest(rt, b"deed=----------------\npins=FF\nwrites=64\n")?;
+    longest(rt, b"deed=----------------\npins=FF\nrule=2\nwrites=64\n")
 }
 
 fn main(rt: HostRuntime) -> io::Result<()> {
-    let alloc = rt.alloc();
-    corners(&rt, alloc, b"", &HEADS)?;
-    corners(&rt, alloc, b"deed=K\npins=20\n", &COUNTS)?;
-    corners(&rt, alloc, b"deed=K\npins=20\n", &RULES)?;
-    corners(&rt, alloc, b"deed=K\npins=20\nwrites=1\n", &WRITES)?;
-    corners(&rt, alloc, b"deed=K\npins=20\nwrites=0\n", &REFUSED)?;
-    corners(&rt, alloc, b"deed=K\npins=20\nwrites=0\n", &ACCEPTED)?;
-    corners(
-        &rt,
-        alloc,
-        b"deed=----------------\npins=FF\nwrites=0\n",
-        &[b""],
-    )?;
-    longs(&rt, alloc)
+    let rt = Output { rt };
+    corners(&rt, b"", &HEADS)?;
+    corners(&rt, b"deed=K\npins=20\n", &COUNTS)?;
+    corners(&rt, b"deed=K\npins=20\n", &RULES)?;
+    corners(&rt, b"deed=K\npins=20\nwrites=1\n", &WRITES)?;
+    corners(&rt, b"deed=K\npins=20\nwrites=0\n", &REFUSED)?;
+    corners(&rt, b"deed=K\npins=20\nwrites=0\n", &ACCEPTED)?;
+    corners(&rt, b"deed=----------------\npins=FF\nwrites=0\n", &[b""])?;
+    longs(&rt)
 }

@@ -4,7 +4,7 @@
 
 use settings::FRAME_LENGTH;
 use std::io;
-use trial::{Answered, Under, cut, lay, mark, put, settings_of, sum, unchanged_from};
+use trial::{Answered, Output, Under, cut, lay, mark, put, settings_of, sum, unchanged_from};
 
 // == Refusals and their order, with every buffer held against what it was before.
 
@@ -189,6 +189,7 @@ fn shows(rt: &impl Print, image: &[u8], letters: &[u8], font: &[u8]) -> io::Resu
 
 // An image and a font of varied bytes, and an image whose first 640 bytes are letters.
 fn main(rt: HostRuntime) -> io::Result<()> {
+    let rt = Output { rt };
     let mut image = [0u8; 65536];
     let mut letters = [0u8; 65536];
     let mut font = [0u8; 3072];

@@ -4,7 +4,7 @@
 use answer::{Answer, Refusal};
 use settings::Look;
 use std::io;
-use trial::{Answered, cut, look_of, put};
+use trial::{Answered, Output, cut, look_of, put};
 
 // The pins, the other byte, its two places, and how much of the strip is checked.
 type Row = (usize, u8, usize, usize, usize);
@@ -58,6 +58,7 @@ fn check_each(rt: &impl Print, rows: &[Row]) -> io::Result<()> {
 
 // The rows, and then a strip that is not looked at, since something was refused before.
 fn main(rt: HostRuntime) -> io::Result<()> {
+    let rt = Output { rt };
     check_each(&rt, &FIRSTS)?;
     check_each(&rt, &OTHERS)?;
     check(&rt, Err(Refusal::ShortFrame), (0x10, 0x80, 0, 6143, 6145))
