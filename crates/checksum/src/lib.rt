@@ -41,8 +41,8 @@ fn first_table() -> [u32; 1024]
     ensures { Stored 256 result }
 {
     let mut entries = [0u32; 1024];
-    for n in 0..256 {
-        entries[n] = eight_bits(n as u32);
+    for (n, entry) in entries[..256].iter_mut().enumerate() {
+        *entry = eight_bits(n as u32);
     }
     entries
 }

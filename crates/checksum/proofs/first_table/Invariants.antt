@@ -1,7 +1,7 @@
--- The entries so far are stored.
-use Rattle.std.proofs.Common.{◌≡◌, length}
-use Rattle.checksum.specs.Sliced.{Stored}
+-- The entries so far are those of the first table.
+use Rattle.std.proofs.Common.{◌≡◌, ℕ, ◌<◌, get_or}
+use Rattle.checksum.specs.Sliced.{sliced}
 use Rattle.checksum.proofs.first_table.Given as goal
 
 abbrev pub invariant-loop-n : goal.invariant-loop-n
-invariant-loop-n l = (length l.entries ≡ 1024) × Stored l.n l.entries
+invariant-loop-n l = (k : ℕ) → k < l.n → get_or l.entry-items k 0 ≡ sliced k
